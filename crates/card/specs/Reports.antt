@@ -1,0 +1,29 @@
+-- Document 01's number and values for each case of the answers of this crate.
+-- Assumes nothing.
+use mathlib.Core.List.{[], _∷_}
+use Rattle.flat.specs.Faults.{Report, accepted, refused}
+use Rattle.card.specs.declared.CardFault.{CardFault}
+use Rattle.card.specs.declared.CardFault.the-variants.{Short, DataCount, ParityCount, Length, Column}
+use Rattle.card.specs.declared.CardCheck.{CardCheck}
+use Rattle.card.specs.declared.CardCheck.the-variants.{Good, Bad}
+use Rattle.card.specs.declared.CardWritten.{CardWritten}
+use Rattle.card.specs.declared.CardWritten.the-variants.{Done, Refused, Buffer}
+
+-- a card's fault
+abbrev pub faultReport : CardFault → Report
+faultReport Short = refused 1 []
+faultReport DataCount = refused 2 []
+faultReport ParityCount = refused 3 []
+faultReport Length = refused 4 []
+faultReport (Column j) = refused 5 (j ∷ [])
+
+-- the check, and the card reader
+abbrev pub checkReport : CardCheck → Report
+checkReport (Good k m) = accepted (k ∷ m ∷ [])
+checkReport (Bad f) = faultReport f
+
+-- the card writer
+abbrev pub writtenReport : CardWritten → Report
+writtenReport Done = accepted []
+writtenReport (Refused f) = faultReport f
+writtenReport Buffer = refused 7 []

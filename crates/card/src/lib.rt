@@ -1,0 +1,197 @@
+// Cards: the bytes that describe a code, k, m, then m columns of two bytes, low byte first. The check
+// that every call makes of a card, the card reader, the card writer, and one column out of the bytes.
+//
+// Every byte string is a legal argument of `check` and `read`, and every number, list and buffer one
+// of `write`. What is answered for which input is said in flat/specs/Faults.antt.
+ghost use mathlib.Core.Path.{_≡_};
+ghost use Prim.Native.Nat.{_+_, _*_, _<_, _≤_};
+ghost use lib.ListN.{length};
+ghost use Rattle.flat.specs.Lists.{padded, field};
+ghost use Rattle.flat.specs.Cards.{code, countOk, columnOk, firstBad, columnsIn, cardLength, cardBytes};
+ghost use Rattle.flat.specs.Faults.{cardReport, cardColumns, cardWriteReport, cardWriteBuffer};
+ghost use Rattle.card.specs.Reports.{checkReport, writtenReport};
+
+// A fault of whoever wrote the card. Column names the first column that is 0 or has a bit at k or above.
+pub enum CardFault {
+    Short,
+    DataCount,
+    ParityCount,
+    Length,
+    Column(usize),
+}
+
+// What the check finds: a card of k data disks and m parity disks, or its fault.
+pub enum CardCheck {
+    Good { k: usize, m: usize },
+    Bad(CardFault),
+}
+
+// The card reader's answer. The columns stand in the first m places, the others are 0, and all are
+// where the card is refused.
+pub struct CardRead {
+    pub check: CardCheck,
+    pub columns: [u16; 16],
+}
+
+// The card writer's answer: written, a fault of the card that was to be, or a buffer of another length.
+pub enum CardWritten {
+    Done,
+    Refused(CardFault),
+    Buffer,
+}
+
+// 1 to 16.
+fn count_ok(n: usize) -> bool
+    ensures { λ r. ⌜ r ≡ countOk n ⌝ }
+{
+    if n < 1 {
+        return false;
+    }
+    n <= 16
+}
+
+// 1 to 2 ^ k - 1.
+fn column_ok(k: usize, c: u16) -> bool
+    requires { ⌜ k ≤ 16 ⌝ }
+    ensures { λ r. ⌜ r ≡ columnOk k c ⌝ }
+{
+    if c < 1 {
+        return false;
+    }
+    (c as u32) < 1u32 << k
+}
+
+// The index of the first column that is none, or how many columns there are.
+fn first_bad(k: usize, columns: &[u16]) -> usize
+    requires { ⌜ k ≤ 16 ⌝ }
+    ensures { λ r. ⌜ r ≡ firstBad k (now (columns .entry)) ⌝ }
+{
+    let mut j = 0;
+    while j < columns.len() {
+        if !column_ok(k, columns[j]) {
+            return j;
+        }
+        j += 1;
+    }
+    j
+}
+
+// Column j out of the bytes of the columns.
+pub fn column(columns: &[u8], j: usize) -> u16
+    requires { ⌜ 2 * j + 1 < length (now columns) ⌝ }
+    ensures { λ r. ⌜ r ≡ field (2 * j) 2 (now (columns .entry)) ⌝ }
+{
+    let at = 2 * j;
+    let low = columns[at] as u16;
+    let high = columns[at + 1] as u16;
+    low + 256 * high
+}
+
+// The m columns out of their bytes, then zeros.
+fn columns_of(m: usize, columns: &[u8]) -> [u16; 16]
+    requires { ⌜ (m ≤ 16) × (2 * m ≤ length (now columns)) ⌝ }
+    ensures { λ r. ⌜ r ≡ padded 16 (columnsIn m (now (columns .entry))) ⌝ }
+{
+    let mut out = [0u16; 16];
+    for j in 0..m {
+        out[j] = column(columns, j);
+    }
+    out
+}
+
+// Whether the bytes are a card, and of how many disks.
+pub fn check(card: &[u8]) -> CardCheck
+    ensures { λ r. ⌜ checkReport r ≡ cardReport (now (card .entry)) ⌝ }
+{
+    if card.len() < 2 {
+        return CardCheck::Bad(CardFault::Short);
+    }
+    let k = card[0] as usize;
+    let m = card[1] as usize;
+    if !count_ok(k) {
+        return CardCheck::Bad(CardFault::DataCount);
+    }
+    if !count_ok(m) {
+        return CardCheck::Bad(CardFault::ParityCount);
+    }
+    if card.len() != 2 + 2 * m {
+        return CardCheck::Bad(CardFault::Length);
+    }
+    let columns = columns_of(m, &card[2..]);
+    let bad = first_bad(k, &columns[..m]);
+    if bad < m {
+        return CardCheck::Bad(CardFault::Column(bad));
+    }
+    CardCheck::Good { k, m }
+}
+
+// The card reader: k, m and the columns.
+pub fn read(card: &[u8]) -> CardRead
+    ensures { λ r. ⌜ (checkReport (r .check) ≡ cardReport (now (card .entry))) × (r .columns ≡ cardColumns (now (card .entry))) ⌝ }
+{
+    let check = check(card);
+    match check {
+        CardCheck::Bad(_) => CardRead {
+            check,
+            columns: [0u16; 16],
+        },
+        CardCheck::Good { k: _, m } => {
+            let columns = columns_of(m, &card[2..]);
+            CardRead { check, columns }
+        }
+    }
+}
+
+// What the card writer answers for a buffer of n bytes.
+fn write_check(k: usize, m: usize, columns: &[u16], n: usize) -> CardWritten
+    ensures { λ r. ⌜ writtenReport r ≡ cardWriteReport (code k m (now (columns .entry))) n ⌝ }
+{
+    if !count_ok(k) {
+        return CardWritten::Refused(CardFault::DataCount);
+    }
+    if !count_ok(m) {
+        return CardWritten::Refused(CardFault::ParityCount);
+    }
+    if columns.len() != m {
+        return CardWritten::Refused(CardFault::Length);
+    }
+    let bad = first_bad(k, columns);
+    if bad < m {
+        return CardWritten::Refused(CardFault::Column(bad));
+    }
+    if n != 2 + 2 * m {
+        return CardWritten::Buffer;
+    }
+    CardWritten::Done
+}
+
+// Puts the card's bytes into a buffer of their length.
+fn put(k: usize, m: usize, columns: &[u16], out: &mut [u8])
+    requires { ⌜ (k ≤ 16) × (m ≤ 16) × (length (now columns) ≡ m) × (length (now out) ≡ cardLength m) ⌝ }
+    ensures { λ _. ⌜ now (out .exit) ≡ cardBytes (code k m (now (columns .entry))) ⌝ }
+{
+    out[0] = k as u8;
+    out[1] = m as u8;
+    for j in 0..m {
+        let c = columns[j];
+        let at = 2 + 2 * j;
+        out[at] = (c % 256) as u8;
+        out[at + 1] = (c / 256) as u8;
+    }
+}
+
+// The card writer: the card of k, m and the columns into a buffer of exactly its length.
+pub fn write(k: usize, m: usize, columns: &[u16], out: &mut [u8]) -> CardWritten
+    ensures { λ r. ⌜ writtenReport r ≡ cardWriteReport (code k m (now (columns .entry))) (length (now (out .entry))) ⌝ }
+    ensures { λ _. ⌜ now (out .exit) ≡ cardWriteBuffer (code k m (now (columns .entry))) (now (out .entry)) ⌝ }
+{
+    let answer = write_check(k, m, columns, out.len());
+    match answer {
+        CardWritten::Refused(_) => answer,
+        CardWritten::Buffer => answer,
+        CardWritten::Done => {
+            put(k, m, columns, out);
+            answer
+        }
+    }
+}

@@ -1,0 +1,216 @@
+-- Document 01, "Faults by their source": what each call answers, and what it leaves in a lent buffer, for every input.
+-- The tests of a call stand in the document's order.
+-- Assumes nothing.
+use mathlib.Core.Bool.{Bool, not, _||_}
+use mathlib.Core.List.{List, [], _∷_, _++_}
+use Prim.Native.Nat.{ℕ, suc, _*_}
+use lib.Dec.{eqb, ltb}
+use lib.ListN.{length, getD, drop}
+use Rattle.gf2.specs.If.{if_then_else_}
+use Rattle.gf2.specs.Sets.{has, size}
+use Rattle.flat.specs.Lists.{padded}
+use Rattle.flat.specs.Cards.{Code, disks, setOk, countOk, firstBad, cardLength, cardBytes, codeOf}
+use Rattle.flat.specs.Strips.{lengthOk, encoded}
+use Rattle.flat.specs.Erasures.{fatal, erasures, vector}
+use Rattle.flat.specs.Equations.{equations}
+use Rattle.flat.specs.Rebuilding.{agreeing, restored}
+use Rattle.flat.specs.Alike.{alike}
+use Rattle.flat.specs.Records.{recordLength, recordBytes, lengthIn, bodyIn, markOk, entriesOk, cardEntryOk, lostIn, stripEntriesOk}
+
+-- ---- reports
+
+-- an answer as the document has it: the refusal's number, 0 where the call is accepted, and the values that are named for it
+pub record Report : Type 0 where
+  pub number : ℕ
+  pub values : List ℕ
+
+abbrev pub accepted : List ℕ → Report
+accepted vs = record { number = 0; values = vs }
+
+abbrev pub refused : ℕ → List ℕ → Report
+refused n vs = record { number = n; values = vs }
+
+-- the one where the report accepts, else the other
+module _ {A : Type 0} where
+  unfoldable pub unlessRefused : Report → A → A → A
+  unlessRefused r new old = if eqb (r .number) 0 then new else old
+
+-- yes is 1, and no is 0
+unfoldable pub yesNo : Bool → ℕ
+yesNo b = if b then 1 else 0
+
+-- ---- cards
+
+-- the faults 2 to 5 of a code, where `sized` says that the columns have the length they need; else what follows
+unfoldable pub codeReport : Code → Bool → Report → Report
+unfolding countOk firstBad
+codeReport C sized next =
+    if not (countOk (C .k)) then refused 2 [] else
+    if not (countOk (C .m)) then refused 3 [] else
+    if not sized then refused 4 [] else
+    if ltb (firstBad (C .k) (C .columns)) (C .m) then refused 5 (firstBad (C .k) (C .columns) ∷ []) else
+    next
+
+-- the card reader: k and m, and the columns in 16 places
+unfoldable pub cardReport : List ℕ → Report
+unfolding codeReport codeOf cardLength
+cardReport card =
+    if ltb (length card) 2 then refused 1 [] else
+    codeReport (codeOf card) (eqb (length card) (cardLength (codeOf card .m))) (accepted (codeOf card .k ∷ codeOf card .m ∷ []))
+
+unfoldable pub cardColumns : List ℕ → List ℕ
+unfolding padded unlessRefused cardReport codeOf
+cardColumns card = padded 16 (unlessRefused (cardReport card) (codeOf card .columns) [])
+
+-- what a call answers that takes a card: the card's refusal, else what it answers for the card's code
+unfoldable pub withCard : List ℕ → (Code → Report) → Report
+unfolding unlessRefused cardReport codeOf
+withCard card answer = unlessRefused (cardReport card) (answer (codeOf card)) (cardReport card)
+
+-- the card writer, for a buffer of n bytes
+unfoldable pub cardWriteReport : Code → ℕ → Report
+unfolding codeReport cardLength
+cardWriteReport C n =
+    codeReport C (eqb (length (C .columns)) (C .m))
+    (if not (eqb n (cardLength (C .m))) then refused 7 [] else accepted [])
+
+unfoldable pub cardWriteBuffer : Code → List ℕ → List ℕ
+unfolding unlessRefused cardWriteReport cardBytes
+cardWriteBuffer C buffer = unlessRefused (cardWriteReport C (length buffer)) (cardBytes C) buffer
+
+-- ---- the encoder, for a stripe of n bytes
+
+unfoldable pub encodeReport : List ℕ → ℕ → ℕ → Report
+unfolding withCard lengthOk disks
+encodeReport card L n =
+    withCard card (λ C.
+    if not (lengthOk L) then refused 6 [] else
+    if not (eqb n (disks C * L)) then refused 7 [] else
+    accepted [])
+
+unfoldable pub encodeStripe : List ℕ → ℕ → List ℕ → List ℕ
+unfolding unlessRefused encodeReport encoded codeOf
+encodeStripe card L stripe = unlessRefused (encodeReport card L (length stripe)) (encoded (codeOf card) L stripe) stripe
+
+-- ---- the verdict call
+
+unfoldable pub verdictReport : List ℕ → ℕ → Report
+unfolding withCard setOk yesNo fatal
+verdictReport card S = withCard card (λ C. if not (setOk C S) then refused 8 [] else accepted (yesNo (fatal C S) ∷ []))
+
+-- ---- the calls that fill a lent slice of n entries with a list
+
+unfoldable pub listReport : List ℕ → ℕ → Report
+listReport list n = if ltb n (length list) then refused 10 (length list ∷ []) else accepted (length list ∷ [])
+
+-- entries past the count keep what they had
+unfoldable pub listSlice : List ℕ → List ℕ → List ℕ
+listSlice list slice = list ++ drop (length list) slice
+
+-- the lister: the count, and the vector in 17 places
+unfoldable pub erasuresReport : List ℕ → ℕ → Report
+unfolding withCard listReport erasures
+erasuresReport card n = withCard card (λ C. listReport (erasures C) n)
+
+unfoldable pub erasuresVector : List ℕ → ℕ → List ℕ
+unfolding padded unlessRefused erasuresReport vector codeOf
+erasuresVector card n = padded 17 (unlessRefused (erasuresReport card n) (vector (codeOf card)) [])
+
+unfoldable pub erasuresSlice : List ℕ → List ℕ → List ℕ
+unfolding unlessRefused erasuresReport listSlice erasures codeOf
+erasuresSlice card slice =
+    unlessRefused (erasuresReport card (length slice)) (listSlice (erasures (codeOf card)) slice) slice
+
+-- the equation call: the count
+unfoldable pub equationsReport : List ℕ → ℕ → ℕ → Report
+unfolding withCard disks listReport equations
+equationsReport card d n =
+    withCard card (λ C. if not (ltb d (disks C)) then refused 9 [] else listReport (equations C d) n)
+
+unfoldable pub equationsSlice : List ℕ → ℕ → List ℕ → List ℕ
+unfolding unlessRefused equationsReport listSlice equations codeOf
+equationsSlice card d slice =
+    unlessRefused (equationsReport card d (length slice)) (listSlice (equations (codeOf card) d) slice) slice
+
+-- ---- the rebuilder
+
+-- no content agrees with the survivors, or the number of lost disks
+unfoldable pub survivorsReport : ℕ → List (List ℕ) → Report
+unfolding size
+survivorsReport S [] = refused 12 []
+survivorsReport S (content ∷ others) = accepted (size S ∷ [])
+
+unfoldable pub rebuildReport : List ℕ → ℕ → ℕ → List ℕ → Report
+unfolding withCard lengthOk setOk disks fatal survivorsReport agreeing
+rebuildReport card L S stripe =
+    withCard card (λ C.
+    if not (lengthOk L) then refused 6 [] else
+    if not (setOk C S) then refused 8 [] else
+    if not (eqb (length stripe) (disks C * L)) then refused 7 [] else
+    if fatal C S then refused 11 [] else
+    survivorsReport S (agreeing C L S stripe))
+
+unfoldable pub rebuildStripe : List ℕ → ℕ → ℕ → List ℕ → List ℕ
+unfolding unlessRefused rebuildReport restored agreeing codeOf
+rebuildStripe card L S stripe =
+    unlessRefused (rebuildReport card L S stripe) (restored (codeOf card) L S stripe (agreeing (codeOf card) L S stripe)) stripe
+
+-- ---- two cards alike: the first card's refusals come before the second's
+
+unfoldable pub alikeReport : List ℕ → List ℕ → Report
+unfolding withCard yesNo alike
+alikeReport first second = withCard first (λ A. withCard second (λ B. accepted (yesNo (alike A B) ∷ [])))
+
+-- ---- the record file
+
+-- the writer, for a stripe of n bytes and an output of p: T, and T bytes at the output's front
+unfoldable pub recordWriteReport : List ℕ → ℕ → ℕ → ℕ → ℕ → Report
+unfolding withCard lengthOk setOk disks recordLength
+recordWriteReport card L S n p =
+    withCard card (λ C.
+    if not (lengthOk L) then refused 6 [] else
+    if not (setOk C S) then refused 8 [] else
+    if not (eqb n (disks C * L)) then refused 7 [] else
+    if ltb p (recordLength C L S) then refused 16 [] else
+    accepted (recordLength C L S ∷ []))
+
+unfoldable pub recordWriteOutput : List ℕ → ℕ → ℕ → List ℕ → List ℕ → List ℕ
+unfolding unlessRefused recordWriteReport recordBytes recordLength codeOf
+recordWriteOutput card L S stripe output =
+    unlessRefused (recordWriteReport card L S (length stripe) (length output))
+    (recordBytes (codeOf card) L S stripe ++ drop (recordLength (codeOf card) L S) output) output
+
+-- what a call answers that takes a record: the record's refusal, else what it answers for the card's code
+unfoldable pub withRecord : List ℕ → (Code → Report) → Report
+unfolding markOk lengthOk lengthIn entriesOk cardEntryOk withCard bodyIn stripEntriesOk recordLength lostIn
+withRecord file answer =
+    if not (markOk file) then refused 13 [] else
+    if not (lengthOk (lengthIn file)) then refused 6 [] else
+    if not (entriesOk file) then refused 14 [] else
+    if not (cardEntryOk file) then refused 14 [] else
+    withCard (bodyIn file 0) (λ C.
+    if not (stripEntriesOk C file) then refused 14 [] else
+    if not (eqb (length file) (recordLength C (lengthIn file) (lostIn C file))) then refused 15 [] else
+    answer C)
+
+-- the reader: k, m, L and the lost set, and the columns in 16 places
+unfoldable pub recordReport : List ℕ → Report
+unfolding withRecord lengthIn lostIn
+recordReport file = withRecord file (λ C. accepted (C .k ∷ C .m ∷ lengthIn file ∷ lostIn C file ∷ []))
+
+unfoldable pub recordColumns : List ℕ → List ℕ
+unfolding padded unlessRefused recordReport codeOf bodyIn
+recordColumns file = padded 16 (unlessRefused (recordReport file) (codeOf (bodyIn file 0) .columns) [])
+
+-- the call beside the body call, and the part of the file that the body call hands back
+unfoldable pub bodyReport : List ℕ → ℕ → Report
+unfolding withRecord disks has lostIn
+bodyReport file d =
+    withRecord file (λ C.
+    if not (ltb d (disks C)) then refused 9 [] else
+    if has (lostIn C file) d then refused 16 [] else
+    accepted [])
+
+unfoldable pub bodyPart : List ℕ → ℕ → List ℕ
+unfolding unlessRefused bodyReport bodyIn
+bodyPart file d = unlessRefused (bodyReport file d) (bodyIn file (suc d)) []

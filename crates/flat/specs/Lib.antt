@@ -1,0 +1,10 @@
+pub mod Lists
+pub mod Cards
+pub mod Strips
+pub mod Erasures
+pub mod Equations
+pub mod Rebuilding
+pub mod Alike
+pub mod Records
+pub mod Faults
+pub mod Worked

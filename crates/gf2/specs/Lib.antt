@@ -1,0 +1,5 @@
+pub mod If
+pub mod Sets
+pub mod Span
+pub mod Within
+pub mod Theorems
