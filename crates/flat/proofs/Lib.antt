@@ -1,1 +1,6 @@
+pub mod Lists
+pub mod Reports
+pub mod Cards
+pub mod RoundTrip
+pub mod Theorems
 pub mod Worked

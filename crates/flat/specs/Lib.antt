@@ -8,3 +8,4 @@ pub mod Alike
 pub mod Records
 pub mod Faults
 pub mod Worked
+pub mod Theorems

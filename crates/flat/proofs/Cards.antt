@@ -1,0 +1,161 @@
+-- Cards: the tests of a code, its columns in bytes, and what is known of an accepted card.
+-- Assumes nothing.
+use mathlib.Core.Path.{_≡_, refl, sym, ap, ap₂, _∙_, subst}
+use mathlib.Core.Bool.{Bool, true, false, not, _&&_, false≢true}
+use mathlib.Core.List.{List, [], _∷_, _++_}
+use Prim.Native.Nat.{ℕ, zero, suc, _+_, _-_, _*_, _/_, _%_, _^_, _≤_, _<_}
+use native.Mathlib.Nat.{not-suc-le-zero}
+use native.Mathlib.Omega.{arith}
+use borrow.Author.Tests.{ltb-true, ltb-false, leb-true, eqb-true, not-false, le-ltb, eq-eqb}
+use lib.Dec.{leb, ltb, eqb}
+use lib.ListN.{length, getD, take, drop}
+use Rattle.gf2.specs.If.{if_then_else_}
+use Rattle.flat.specs.Lists.{Bytes, tabulate, each, bytes, field}
+use Rattle.flat.specs.Cards.{Code, code, countOk, columnOk, firstBad, cardLength, cardBytes, columnsIn, codeOf}
+use Rattle.flat.specs.Faults.{Report, accepted, refused, codeReport, cardReport}
+use Rattle.flat.proofs.Lists.{length-tabulate, tabulate-cong, field-two}
+use Rattle.flat.proofs.Reports.{passed}
+
+-- ---- the tests
+
+and-out : (a b : Bool) → (a && b) ≡ true → (a ≡ true) × (b ≡ true)
+and-out true b e = (refl, e)
+and-out false b e = (e, absurd (false≢true e))
+
+pub count-in : (n : ℕ) → countOk n ≡ true → (1 ≤ n) × (n ≤ 16)
+unfolding countOk
+count-in n e = let p = and-out (leb 1 n) (leb n 16) e in (leb-true 1 n (p .0), leb-true n 16 (p .1))
+
+pub column-in : (k c : ℕ) → columnOk k c ≡ true → (1 ≤ c) × (c < 2 ^ k)
+unfolding columnOk
+column-in k c e = let p = and-out (leb 1 c) (ltb c (2 ^ k)) e in (leb-true 1 c (p .0), ltb-true c (2 ^ k) (p .1))
+
+pub first-le : (k : ℕ) (cs : List ℕ) → firstBad k cs ≤ length cs
+unfolding firstBad
+first-le k [] = omega arith
+first-le k (c ∷ cs) = go (columnOk k c) (first-le k cs)
+  where
+    go : (b : Bool) → firstBad k cs ≤ length cs → (if b then suc (firstBad k cs) else 0) ≤ suc (length cs)
+    go true h = omega arith
+    go false h = omega arith
+
+-- where the first bad column comes after all of them, each is a column
+pub none-bad : (k : ℕ) (cs : List ℕ) → length cs ≤ firstBad k cs → (j : ℕ) → j < length cs → columnOk k (getD cs j 0) ≡ true
+unfolding firstBad
+none-bad k [] h j l = absurd (not-suc-le-zero l)
+none-bad k (c ∷ cs) h j l = go (columnOk k c) refl h j l (none-bad k cs)
+  where
+    go : (b : Bool) → columnOk k c ≡ b → suc (length cs) ≤ (if b then suc (firstBad k cs) else 0) → (j : ℕ) → j < suc (length cs)
+        → (length cs ≤ firstBad k cs → (i : ℕ) → i < length cs → columnOk k (getD cs i 0) ≡ true) → columnOk k (getD (c ∷ cs) j 0) ≡ true
+    go true e h zero l rest = e
+    go true e h (suc j) l rest = rest (omega arith) j (omega arith)
+    go false e h j l rest = absurd (omega arith)
+
+-- ---- columns in bytes
+
+pub length-columns : (m : ℕ) (bs : List ℕ) → length (columnsIn m bs) ≡ m
+unfolding columnsIn
+length-columns m bs = length-tabulate m (λ j. field (2 * j) 2 bs)
+
+columns-cons : (m a b : ℕ) (bs : List ℕ) → columnsIn (suc m) (a ∷ b ∷ bs) ≡ (a + 256 * b) ∷ columnsIn m bs
+unfolding columnsIn tabulate
+columns-cons m a b bs =
+    ap₂ _∷_ (field-two 0 (a ∷ b ∷ bs))
+    (tabulate-cong m (λ j. field (2 * suc j) 2 (a ∷ b ∷ bs)) (λ j. field (2 * j) 2 bs) (λ j h. shift j))
+  where
+    shift : (j : ℕ) → field (2 * suc j) 2 (a ∷ b ∷ bs) ≡ field (2 * j) 2 bs
+    shift j = let e : 2 * suc j ≡ suc (suc (2 * j)) = omega arith in
+        ap (λ (i : ℕ). field i 2 (a ∷ b ∷ bs)) e ∙ field-two (suc (suc (2 * j))) (a ∷ b ∷ bs) ∙ sym (field-two (2 * j) bs)
+
+pub length-column-bytes : (cs : List ℕ) → length (each (bytes 2) cs) ≡ 2 * length cs
+unfolding each bytes
+length-column-bytes [] = refl
+length-column-bytes (c ∷ cs) = let h = length-column-bytes cs in omega arith
+
+-- the columns come back out of their bytes
+pub columns-bytes : (cs : List ℕ) → ((j : ℕ) → j < length cs → getD cs j 0 < 65536) → columnsIn (length cs) (each (bytes 2) cs) ≡ cs
+unfolding each bytes columnsIn
+columns-bytes [] h = refl
+columns-bytes (c ∷ cs) h =
+    let l : c < 65536 = h 0 (omega arith) in
+    let e : c % 256 + 256 * (c / 256 % 256) ≡ c = omega arith in
+    columns-cons (length cs) (c % 256) (c / 256 % 256) (each (bytes 2) cs) ∙ ap₂ _∷_ e (columns-bytes cs (λ j k. h (suc j) (omega arith)))
+
+-- bytes come back out of the columns that stand in them
+pub bytes-columns : (m : ℕ) (bs : List ℕ) → Bytes bs → length bs ≡ 2 * m → each (bytes 2) (columnsIn m bs) ≡ bs
+unfolding each bytes columnsIn
+bytes-columns zero [] b e = refl
+bytes-columns zero (x ∷ bs) b e = absurd (omega arith)
+bytes-columns (suc m) [] b e = absurd (omega arith)
+bytes-columns (suc m) (x ∷ []) b e = absurd (omega arith)
+bytes-columns (suc m) (x ∷ y ∷ bs) b e =
+    let lx : x < 256 = b 0 in
+    let ly : y < 256 = b 1 in
+    let low : (x + 256 * y) % 256 ≡ x = omega arith in
+    let half : (x + 256 * y) / 256 ≡ y = omega arith in
+    let high : y % 256 ≡ y = omega arith in
+    ap (each (bytes 2)) (columns-cons m x y bs)
+    ∙ rw (low, half, high) (ap (λ (r : List ℕ). x ∷ y ∷ r) (bytes-columns m bs (λ i. b (suc (suc i))) (omega arith)))
+
+-- ---- accepted codes and cards
+
+-- what the tests 2 to 5 leave of a code that passes them
+pub record Sound (C : Code) : Type 0 where
+  pub k-ok : countOk (C .k) ≡ true
+  pub m-ok : countOk (C .m) ≡ true
+  pub first : C .m ≤ firstBad (C .k) (C .columns)
+
+pub sound : (C : Code) (sized : Bool) (next : Report) (ws : List ℕ) → codeReport C sized next ≡ accepted ws
+    → Sound C × (sized ≡ true) × (next ≡ accepted ws)
+unfolding codeReport
+sound C sized next ws e =
+    let a = passed (not (countOk (C .k))) 1 [] ws _ e in
+    let b = passed (not (countOk (C .m))) 2 [] ws _ (a .1) in
+    let c = passed (not sized) 3 [] ws _ (b .1) in
+    let d = passed (ltb (firstBad (C .k) (C .columns)) (C .m)) 4 (firstBad (C .k) (C .columns) ∷ []) ws next (c .1) in (
+      record {
+        k-ok = not-false (countOk (C .k)) (a .0);
+        m-ok = not-false (countOk (C .m)) (b .0);
+        first = ltb-false (firstBad (C .k) (C .columns)) (C .m) (d .0);
+      },
+      not-false sized (c .0),
+      d .1,
+    )
+
+pub sound-report : (C : Code) (next : Report) → Sound C → codeReport C true next ≡ next
+unfolding codeReport
+sound-report C next s = simp (s .k-ok, s .m-ok, le-ltb _ _ (s .first))
+
+-- a card that is accepted with these k and m
+pub record Accepted (card : List ℕ) (k m : ℕ) : Type 0 where
+  pub is : codeOf card ≡ code k m (columnsIn m (drop 2 card))
+  pub sound : Sound (code k m (columnsIn m (drop 2 card)))
+  pub size : length card ≡ cardLength m
+
+pub accepted-card : (card : List ℕ) (k m : ℕ) → cardReport card ≡ accepted (k ∷ m ∷ []) → Accepted card k m
+unfolding cardReport codeOf
+accepted-card card k m e =
+    let C = codeOf card in
+    let a = passed (ltb (length card) 2) 0 [] (k ∷ m ∷ []) _ e in
+    let s = sound C (eqb (length card) (cardLength (C .m))) (accepted (C .k ∷ C .m ∷ [])) (k ∷ m ∷ []) (a .1) in
+    let r : accepted (C .k ∷ C .m ∷ []) ≡ accepted (k ∷ m ∷ []) = s .2 in
+    let ek : getD card 0 0 ≡ k = ap (λ (x : Report). getD (x .values) 0 0) r in
+    let em : getD card 1 0 ≡ m = ap (λ (x : Report). getD (x .values) 1 0) r in
+    let is : C ≡ code k m (columnsIn m (drop 2 card)) =
+    ap₂ (λ (x y : ℕ). code x y (columnsIn y (drop 2 card))) ek em in
+    record {
+      is = is;
+      sound = subst Sound is (s .0);
+      size = eqb-true (length card) (cardLength (C .m)) (s .1) ∙ ap cardLength em;
+    }
+
+pub report-accepted : (card : List ℕ) (C : Code) → codeOf card ≡ C → Sound C → length card ≡ cardLength (C .m)
+    → cardReport card ≡ accepted (C .k ∷ C .m ∷ [])
+unfolding cardReport cardLength
+report-accepted card C is s size =
+    let long : 2 ≤ length card = omega arith in
+    let whole = accepted (C .k ∷ C .m ∷ []) in
+    simp (le-ltb _ _ long)
+    (ap (λ (D : Code). codeReport D (eqb (length card) (cardLength (D .m))) (accepted (D .k ∷ D .m ∷ []))) is
+    ∙ ap (λ (b : Bool). codeReport C b whole) (eq-eqb (length card) (cardLength (C .m)) size)
+    ∙ sound-report C whole s)

@@ -1,0 +1,50 @@
+-- Laws of the words that the definitions are written in: tables, padded lists, and numbers in bytes.
+-- Assumes nothing.
+use mathlib.Core.Path.{_≡_, refl, sym, ap, ap₂, _∙_}
+use mathlib.Core.List.{List, [], _∷_, _++_}
+use Prim.Native.Nat.{ℕ, zero, suc, _+_, _-_, _*_, _≤_, _<_}
+use native.Mathlib.Nat.{not-suc-le-zero}
+use native.Mathlib.Omega.{arith}
+use lib.ListN.{length, getD, take, drop, replicate, length-append, length-replicate}
+use lib.Seq.{take-at}
+use Rattle.flat.specs.Lists.{tabulate, padded, number, field}
+
+-- ---- tables
+
+pub length-tabulate : (n : ℕ) (f : ℕ → ℕ) → length (tabulate n f) ≡ n
+unfolding tabulate
+length-tabulate zero f = refl
+length-tabulate (suc n) f = ap suc (length-tabulate n (λ i. f (suc i)))
+
+pub getD-tabulate : (n : ℕ) (f : ℕ → ℕ) (i : ℕ) → i < n → getD (tabulate n f) i 0 ≡ f i
+unfolding tabulate
+getD-tabulate zero f i h = absurd (not-suc-le-zero h)
+getD-tabulate (suc n) f zero h = refl
+getD-tabulate (suc n) f (suc i) h = getD-tabulate n (λ j. f (suc j)) i (omega arith)
+
+pub tabulate-cong : (n : ℕ) (f g : ℕ → ℕ) → ((i : ℕ) → i < n → f i ≡ g i) → tabulate n f ≡ tabulate n g
+unfolding tabulate
+tabulate-cong zero f g e = refl
+tabulate-cong (suc n) f g e =
+    ap₂ _∷_ (e 0 (omega arith)) (tabulate-cong n (λ i. f (suc i)) (λ i. g (suc i)) (λ i h. e (suc i) (omega arith)))
+
+-- ---- padded lists
+
+pub length-padded : (n : ℕ) (xs : List ℕ) → length xs ≤ n → length (padded n xs) ≡ n
+unfolding padded
+length-padded n xs h = length-append xs (replicate (n - length xs) 0) ∙ ap (λ (i : ℕ). length xs + i) (length-replicate (n - length xs) 0) ∙ omega arith
+
+pub take-padded : (n m : ℕ) (xs : List ℕ) → length xs ≡ m → take m (padded n xs) ≡ xs
+unfolding padded
+take-padded n m xs e = take-at xs (replicate (n - length xs) 0) m e
+
+-- ---- numbers in bytes
+
+-- two bytes from a place on, also past the end
+pub field-two : (at : ℕ) (xs : List ℕ) → field at 2 xs ≡ getD xs at 0 + 256 * getD xs (suc at) 0
+unfolding field
+field-two zero [] = refl
+field-two zero (a ∷ []) = refl
+field-two zero (a ∷ b ∷ xs) = let z : a + 256 * (b + 256 * 0) ≡ a + 256 * b = omega arith in z
+field-two (suc at) [] = refl
+field-two (suc at) (a ∷ xs) = field-two at xs

@@ -1,0 +1,35 @@
+-- What an accepted report tells of the tests that led to it, and what carries a card's refusal.
+-- Assumes nothing.
+use mathlib.Core.Path.{_≡_, refl, sym, ap, _∙_}
+use mathlib.Core.Bool.{Bool, true, false}
+use mathlib.Core.List.{List}
+use Prim.Native.Nat.{ℕ, zero, suc}
+use native.Mathlib.Omega.{arith}
+use lib.Dec.{eqb·suc-zero}
+use Rattle.gf2.specs.If.{if_then_else_}
+use Rattle.flat.specs.Cards.{Code, codeOf}
+use Rattle.flat.specs.Faults.{Report, accepted, refused, unlessRefused, cardReport, withCard}
+
+-- where a test refuses and the whole accepts, the test did not hold, and the rest accepts
+pub passed : (b : Bool) (n : ℕ) (vs ws : List ℕ) (rest : Report) → (if b then refused (suc n) vs else rest) ≡ accepted ws
+    → (b ≡ false) × (rest ≡ accepted ws)
+passed true n vs ws rest e = absurd (let z : suc n ≡ 0 = ap (λ (r : Report). r .number) e in omega arith)
+passed false n vs ws rest e = (refl, e)
+
+module _ {A : Type 0} where
+  pub unless-accepted : (r : Report) (ws : List ℕ) (new old : A) → r ≡ accepted ws → unlessRefused r new old ≡ new
+  unfolding unlessRefused
+  unless-accepted r ws new old e = rw e
+
+  pub unless-refused : (r : Report) (n : ℕ) (vs : List ℕ) (new old : A) → r ≡ refused (suc n) vs → unlessRefused r new old ≡ old
+  unfolding unlessRefused
+  unless-refused r n vs new old e = rw (e, eqb·suc-zero)
+
+-- an accepted card's code is what the call works on, and a refused card's refusal is the call's
+pub with-accepted : (card : List ℕ) (ws : List ℕ) (f : Code → Report) → cardReport card ≡ accepted ws → withCard card f ≡ f (codeOf card)
+unfolding withCard
+with-accepted card ws f e = unless-accepted (cardReport card) ws (f (codeOf card)) (cardReport card) e
+
+pub with-refused : (card : List ℕ) (n : ℕ) (vs : List ℕ) (f : Code → Report) → cardReport card ≡ refused (suc n) vs → withCard card f ≡ refused (suc n) vs
+unfolding withCard
+with-refused card n vs f e = unless-refused (cardReport card) n vs (f (codeOf card)) (cardReport card) e ∙ e
