@@ -1,7 +1,7 @@
 -- Document 01, "Faults by their source": what each call answers, and what it leaves in a lent buffer, for every input.
 -- The tests of a call stand in the document's order.
 -- Assumes nothing.
-use mathlib.Core.Bool.{Bool, not, _||_}
+use mathlib.Core.Bool.{Bool, not}
 use mathlib.Core.List.{List, [], _∷_, _++_}
 use Prim.Native.Nat.{ℕ, suc, _*_}
 use lib.Dec.{eqb, ltb}
