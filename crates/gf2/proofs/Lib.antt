@@ -1,0 +1,10 @@
+pub mod Tests
+pub mod Bits
+pub mod Xor
+pub mod Subsets
+pub mod Spans
+pub mod Sums
+pub mod Elimination
+pub mod OneRow
+pub mod Loops
+pub mod Theorems

@@ -25,4 +25,5 @@ reduced S (suc n) [] = []
 reduced S (suc n) (b ∷ bs) = if b ⊆ S then b ∷ reduced S n bs else reduced S n (map (clear (lowest (b ∖ S)) b) bs)
 
 unfoldable pub within : ℕ → List ℕ → List ℕ
+unfolding _⊆_ _∖_ lowest clear
 within S bs = reduced S (length bs) bs
