@@ -8,7 +8,7 @@ use Prim.Native.Nat.{ℕ, suc, _^_}
 use lib.Dec.{eqb}
 use lib.ListN.{length}
 use Rattle.gf2.specs.Sets.{bit, has, size, _⊂_}
-use Rattle.flat.specs.Lists.{some, every, range, filter, orderedBy}
+use Rattle.flat.specs.Lists.{some, every, setOf, range, filter, orderedBy}
 use Rattle.flat.specs.Cards.{Code, disks, dataPart}
 use Rattle.flat.specs.Strips.{holds}
 
@@ -21,6 +21,11 @@ holdsBit C x i = holds C (bit x) i
 unfoldable pub agreeOutside : Code → ℕ → ℕ → ℕ → Bool
 unfolding every disks has holdsBit
 agreeOutside C S x y = every (disks C) (λ i. has S i || eqb (holdsBit C x i) (holdsBit C y i))
+
+-- the survivors when S is lost: the code's disks outside it
+unfoldable pub survivors : Code → ℕ → ℕ
+unfolding setOf disks has
+survivors C S = setOf (disks C) (λ i. not (has S i))
 
 -- is S fatal: are there two different data words that agree outside S?
 unfoldable pub fatal : Code → ℕ → Bool

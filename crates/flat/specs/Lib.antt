@@ -8,4 +8,5 @@ pub mod Alike
 pub mod Records
 pub mod Faults
 pub mod Worked
+pub mod Spans
 pub mod Theorems

@@ -1,0 +1,149 @@
+-- Tests over the numbers below a bound, and sets made by a test.
+-- Assumes nothing.
+use mathlib.Core.Path.{_≡_, refl, sym, ap, ap₂, _∙_, subst}
+use mathlib.Core.Bool.{Bool, true, false, _&&_, _||_}
+use mathlib.Core.Logic.{_⊎_, inl, inr, _≢_}
+use Prim.Native.Nat.{ℕ, zero, suc, _+_, _*_, _^_, _≤_, _<_}
+use native.Mathlib.Nat.{not-suc-le-zero, le-suc-iff, pow-suc, lt-irrefl}
+use native.Mathlib.Omega.{arith}
+use native.Mathlib.Decide.{decLt}
+use lib.Dec.{T}
+use lib.Pow.{pow-pos}
+use lib.Bits.{xor-disjoint, and-comm, and-shifted}
+use Rattle.gf2.specs.If.{if_then_else_}
+use Rattle.gf2.specs.Sets.{bit, has, _⊕_, _⊆_}
+use Rattle.gf2.proofs.Tests.{dec, T-true, T-false, T-ext, if-true, if-false}
+use Rattle.gf2.proofs.Bits.{bit-lt, bit-cases, bit-above, bit-⊕, bit-of-zero, bit-pow-same, bit-pow-other, has-in, has-out, has-not, not-has, has-one, has-zero}
+use Rattle.gf2.proofs.Xor.{⊕-lt}
+use Rattle.flat.specs.Lists.{some, every, setOf}
+
+-- a number below n with property P, and all of them
+abbrev pub Some : ℕ → (ℕ → Type 0) → Type 0
+Some n P = (x : ℕ) × (x < n) × P x
+
+abbrev pub All : ℕ → (ℕ → Type 0) → Type 0
+All n P = (x : ℕ) → x < n → P x
+
+-- below suc n: below n, or n
+pub below-suc : (i n : ℕ) → i < suc n → (i < n) ⊎ (i ≡ n)
+below-suc i n l = go (le-suc-iff .0 l)
+  where
+    go : (suc i ≤ n) ⊎ (suc i ≡ suc n) → (i < n) ⊎ (i ≡ n)
+    go (inl m) = inl m
+    go (inr q) = inr (omega arith)
+
+pub below-or : (i n : ℕ) → (i < n) ⊎ (n ≤ i)
+below-or i n = elim (decLt i n) [ yes h ↦ inl h | no h ↦ inr (omega arith) ]
+
+pub some-in : (n : ℕ) (p : ℕ → Bool) → Some n (λ x. T (p x)) → T (some n p)
+unfolding some
+some-in zero p (x, l, t) = absurd (not-suc-le-zero l)
+some-in (suc n) p (x, l, t) = go (some n p) (some-in n p) (below-suc x n l)
+  where
+    go : (b : Bool) → (Some n (λ y. T (p y)) → T b) → (x < n) ⊎ (x ≡ n) → T (b || p n)
+    go true rest c = tt
+    go false rest (inl m) = absurd (rest (x, m, t))
+    go false rest (inr q) = subst (λ (y : ℕ). T (p y)) q t
+
+pub some-out : (n : ℕ) (p : ℕ → Bool) → T (some n p) → Some n (λ x. T (p x))
+unfolding some
+some-out zero p t = absurd t
+some-out (suc n) p t = go (some n p) (some-out n p) t
+  where
+    go : (b : Bool) → (T b → Some n (λ x. T (p x))) → T (b || p n) → Some (suc n) (λ x. T (p x))
+    go true rest u = let r = rest tt in (r .0, omega arith, r .2)
+    go false rest u = (n, omega arith, u)
+
+pub every-in : (n : ℕ) (p : ℕ → Bool) → All n (λ x. T (p x)) → T (every n p)
+unfolding every
+every-in zero p h = tt
+every-in (suc n) p h = go (every n p) (every-in n p (λ x l. h x (omega arith)))
+  where
+    go : (b : Bool) → T b → T (b && p n)
+    go true u = h n (omega arith)
+    go false u = u
+
+pub every-out : (n : ℕ) (p : ℕ → Bool) → T (every n p) → All n (λ x. T (p x))
+unfolding every
+every-out zero p t x l = absurd (not-suc-le-zero l)
+every-out (suc n) p t x l = go (every n p) (every-out n p) t (below-suc x n l)
+  where
+    go : (b : Bool) → (T b → All n (λ y. T (p y))) → T (b && p n) → (x < n) ⊎ (x ≡ n) → T (p x)
+    go true rest u (inl m) = rest tt x m
+    go true rest u (inr q) = subst (λ (y : ℕ). T (p y)) (sym q) u
+    go false rest u c = absurd u
+
+-- some number below n has p, or none
+pub find : (n : ℕ) (p : ℕ → Bool) → Some n (λ x. T (p x)) ⊎ All n (λ x. T (p x) → ⊥)
+find n p = go (dec (some n p))
+  where
+    go : T (some n p) ⊎ (T (some n p) → ⊥) → Some n (λ x. T (p x)) ⊎ All n (λ x. T (p x) → ⊥)
+    go (inl t) = inl (some-out n p t)
+    go (inr f) = inr (λ x l t. f (some-in n p (x, l, t)))
+
+-- ---- the set of the numbers below n that have p
+
+pub set-lt : (n : ℕ) (p : ℕ → Bool) → setOf n p < 2 ^ n
+unfolding setOf
+set-lt zero p = omega arith
+set-lt (suc n) p = rw pow-suc (go (p n) (set-lt n p))
+  where
+    go : (b : Bool) → setOf n p < 2 ^ n → setOf n p + (if b then 2 ^ n else 0) < 2 ^ n * 2
+    go true l = omega arith
+    go false l = omega (arith, pow-pos n)
+
+-- a power of two added to a smaller number is XORed into it
+add-power : (n s : ℕ) → s < 2 ^ n → s + 2 ^ n ≡ s ⊕ 2 ^ n
+unfolding _⊕_
+add-power n s l =
+    sym (xor-disjoint s (2 ^ n) (and-comm s (2 ^ n) ∙ (let e : 2 ^ n ≡ 1 * 2 ^ n = omega arith in rw e (and-shifted 1 n s l))))
+
+set-step : (n s i : ℕ) (b : Bool) → s < 2 ^ n → bit (s + (if b then 2 ^ n else 0)) i ≡ (bit s i + (if b then bit (2 ^ n) i else 0)) % 2
+set-step n s i true l = ap (λ (x : ℕ). bit x i) (add-power n s l) ∙ bit-⊕ s (2 ^ n) i
+set-step n s i false l =
+    let z : s + 0 ≡ s = omega arith in
+    let h : bit s i < 2 = bit-lt s i in
+    ap (λ (x : ℕ). bit x i) z ∙ (let e : bit s i ≡ (bit s i + 0) % 2 = omega arith in e)
+
+-- disk i is in it where p holds of i
+pub bit-set : (n : ℕ) (p : ℕ → Bool) (i : ℕ) → i < n → bit (setOf n p) i ≡ (if p i then 1 else 0)
+unfolding setOf
+bit-set zero p i l = absurd (not-suc-le-zero l)
+bit-set (suc n) p i l = set-step n (setOf n p) i (p n) (set-lt n p) ∙ go (below-suc i n l) (bit-set n p i)
+  where
+    one : (b : Bool) → (0 + (if b then 1 else 0)) % 2 ≡ (if b then 1 else 0)
+    one true = refl
+    one false = refl
+
+    same : (b c : Bool) → ((if b then 1 else 0) + (if c then 0 else 0)) % 2 ≡ (if b then 1 else 0)
+    same true true = refl
+    same true false = refl
+    same false true = refl
+    same false false = refl
+
+    go : (i < n) ⊎ (i ≡ n) → (i < n → bit (setOf n p) i ≡ (if p i then 1 else 0))
+        → (bit (setOf n p) i + (if p n then bit (2 ^ n) i else 0)) % 2 ≡ (if p i then 1 else 0)
+    go (inl m) rest =
+        ap₂ (λ (x y : ℕ). (x + (if p n then y else 0)) % 2) (rest m) (bit-pow-other n i (λ e. lt-irrefl n (subst (λ (y : ℕ). y < n) e m)))
+        ∙ same (p i) (p n)
+    go (inr q) rest =
+        rw q
+        (ap₂ (λ (x y : ℕ). (x + (if p n then y else 0)) % 2) (bit-above n (setOf n p) n (set-lt n p) (omega arith)) (bit-pow-same n) ∙ one (p n))
+
+pub has-set : (n : ℕ) (p : ℕ → Bool) (i : ℕ) → i < n → has (setOf n p) i ≡ p i
+has-set n p i l = go (p i) (bit-set n p i l)
+  where
+    go : (b : Bool) → bit (setOf n p) i ≡ (if b then 1 else 0) → has (setOf n p) i ≡ b
+    go true e = has-one (setOf n p) i e
+    go false e = has-zero (setOf n p) i e
+
+-- a member of it is below n, and has p
+pub set-out : (n : ℕ) (p : ℕ → Bool) (i : ℕ) → T (has (setOf n p) i) → (i < n) × T (p i)
+set-out n p i t = go (below-or i n)
+  where
+    go : (i < n) ⊎ (n ≤ i) → (i < n) × T (p i)
+    go (inl l) = (l, subst T (has-set n p i l) t)
+    go (inr l) = absurd (not-has (setOf n p) i (bit-above n (setOf n p) i (set-lt n p) l) t)
+
+pub set-in : (n : ℕ) (p : ℕ → Bool) (i : ℕ) → i < n → T (p i) → T (has (setOf n p) i)
+set-in n p i l t = subst T (sym (has-set n p i l)) t

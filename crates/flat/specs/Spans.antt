@@ -1,0 +1,61 @@
+-- The same code as two spans: its codewords are the span of k rows, and the sets whose bits XOR to 0 that of m checks.
+-- Computing code goes by these; nobody has to believe them, since Theorems says what they are and no public contract names them.
+-- Assumes nothing.
+use mathlib.Core.Bool.{Bool, not, _&&_}
+use mathlib.Core.List.{List, map}
+use Prim.Native.Nat.{ℕ, suc, _+_, _-_, _^_}
+use lib.Dec.{eqb, ltb}
+use lib.ListN.{length}
+use Rattle.gf2.specs.If.{if_then_else_}
+use Rattle.gf2.specs.Sets.{has, size, _∖_}
+use Rattle.gf2.specs.Span.{select}
+use Rattle.gf2.specs.Within.{within}
+use Rattle.flat.specs.Lists.{some, setOf, range, tabulate, filter, orderedBy}
+use Rattle.flat.specs.Cards.{Code, disks, column}
+use Rattle.flat.specs.Erasures.{holdsBit, agreeOutside}
+
+-- the codeword of a data word: the disks that hold 1
+unfoldable pub codeword : Code → ℕ → ℕ
+unfolding setOf disks holdsBit
+codeword C x = setOf (disks C) (λ i. eqb (holdsBit C x i) 1)
+
+-- row i: data disk i with the parity disks whose column names it
+unfoldable pub row : Code → ℕ → ℕ
+unfolding setOf disks has column
+row C i = setOf (disks C) (λ d. if ltb d (C .k) then eqb d i else has (column C (d - C .k)) i)
+
+unfoldable pub rows : Code → List ℕ
+unfolding tabulate row
+rows C = tabulate (C .k) (row C)
+
+-- check j: parity disk k + j with its data disks
+unfoldable pub check : Code → ℕ → ℕ
+unfolding setOf disks has column
+check C j = setOf (disks C) (λ d. if ltb d (C .k) then has (column C j) d else eqb d (C .k + j))
+
+unfoldable pub checks : Code → List ℕ
+unfolding tabulate check
+checks C = tabulate (C .m) (check C)
+
+-- do two data words that agree outside S differ on disk d?
+unfoldable pub undetermined : Code → ℕ → ℕ → Bool
+unfolding some agreeOutside holdsBit
+undetermined C S d =
+    some (2 ^ C .k) (λ x. some (2 ^ C .k) (λ y. agreeOutside C S x y && not (eqb (holdsBit C x d) (holdsBit C y d))))
+
+-- the numbers that select a minimal word of a span: one row is left inside the word
+unfoldable pub selectors : List ℕ → List ℕ
+unfolding filter range select within
+selectors bs = filter (λ x. eqb (length (within (select bs x) bs)) 1) (range 1 (2 ^ length bs - 1))
+
+-- the minimal erasures, one candidate for each data word
+unfoldable pub erasuresByWord : Code → List ℕ
+unfolding orderedBy size disks select rows selectors
+erasuresByWord C = orderedBy size (suc (disks C)) (map (select (rows C)) (selectors (rows C)))
+
+-- the equations of disk d, one candidate for each set of parities
+unfoldable pub equationsByParities : Code → ℕ → List ℕ
+unfolding orderedBy size disks select checks selectors filter has _∖_
+equationsByParities C d =
+    orderedBy size (suc (disks C))
+    (map (λ p. select (checks C) p ∖ 2 ^ d) (filter (λ p. has (select (checks C) p) d) (selectors (checks C))))
