@@ -3,5 +3,7 @@ pub mod Reports
 pub mod Cards
 pub mod RoundTrip
 pub mod Quantifiers
+pub mod Words
+pub mod Rows
 pub mod Theorems
 pub mod Worked

@@ -3,18 +3,16 @@
 use mathlib.Core.Path.{_≡_, refl, sym, ap, ap₂, _∙_, subst}
 use mathlib.Core.Bool.{Bool, true, false, _&&_, _||_}
 use mathlib.Core.Logic.{_⊎_, inl, inr, _≢_}
-use Prim.Native.Nat.{ℕ, zero, suc, _+_, _*_, _^_, _≤_, _<_}
+use Prim.Native.Nat.{ℕ, zero, suc, _+_, _*_, _%_, _^_, _≤_, _<_}
 use native.Mathlib.Nat.{not-suc-le-zero, le-suc-iff, pow-suc, lt-irrefl}
 use native.Mathlib.Omega.{arith}
-use native.Mathlib.Decide.{decLt}
 use lib.Dec.{T}
 use lib.Pow.{pow-pos}
 use lib.Bits.{xor-disjoint, and-comm, and-shifted}
 use Rattle.gf2.specs.If.{if_then_else_}
-use Rattle.gf2.specs.Sets.{bit, has, _⊕_, _⊆_}
-use Rattle.gf2.proofs.Tests.{dec, T-true, T-false, T-ext, if-true, if-false}
-use Rattle.gf2.proofs.Bits.{bit-lt, bit-cases, bit-above, bit-⊕, bit-of-zero, bit-pow-same, bit-pow-other, has-in, has-out, has-not, not-has, has-one, has-zero}
-use Rattle.gf2.proofs.Xor.{⊕-lt}
+use Rattle.gf2.specs.Sets.{bit, has, _⊕_}
+use Rattle.gf2.proofs.Tests.{dec, below-suc, below-or}
+use Rattle.gf2.proofs.Bits.{bit-lt, bit-above, bit-⊕, bit-pow-same, bit-pow-other, not-has, has-if}
 use Rattle.flat.specs.Lists.{some, every, setOf}
 
 -- a number below n with property P, and all of them
@@ -24,26 +22,15 @@ Some n P = (x : ℕ) × (x < n) × P x
 abbrev pub All : ℕ → (ℕ → Type 0) → Type 0
 All n P = (x : ℕ) → x < n → P x
 
--- below suc n: below n, or n
-pub below-suc : (i n : ℕ) → i < suc n → (i < n) ⊎ (i ≡ n)
-below-suc i n l = go (le-suc-iff .0 l)
-  where
-    go : (suc i ≤ n) ⊎ (suc i ≡ suc n) → (i < n) ⊎ (i ≡ n)
-    go (inl m) = inl m
-    go (inr q) = inr (omega arith)
-
-pub below-or : (i n : ℕ) → (i < n) ⊎ (n ≤ i)
-below-or i n = elim (decLt i n) [ yes h ↦ inl h | no h ↦ inr (omega arith) ]
-
 pub some-in : (n : ℕ) (p : ℕ → Bool) → Some n (λ x. T (p x)) → T (some n p)
 unfolding some
-some-in zero p (x, l, t) = absurd (not-suc-le-zero l)
-some-in (suc n) p (x, l, t) = go (some n p) (some-in n p) (below-suc x n l)
+some-in zero p s = absurd (not-suc-le-zero (s .1))
+some-in (suc n) p s = go (some n p) (some-in n p) (below-suc (s .0) n (s .1))
   where
-    go : (b : Bool) → (Some n (λ y. T (p y)) → T b) → (x < n) ⊎ (x ≡ n) → T (b || p n)
+    go : (b : Bool) → (Some n (λ y. T (p y)) → T b) → (s .0 < n) ⊎ (s .0 ≡ n) → T (b || p n)
     go true rest c = tt
-    go false rest (inl m) = absurd (rest (x, m, t))
-    go false rest (inr q) = subst (λ (y : ℕ). T (p y)) q t
+    go false rest (inl m) = absurd (rest (s .0, m, s .2))
+    go false rest (inr q) = subst (λ (y : ℕ). T (p y)) q (s .2)
 
 pub some-out : (n : ℕ) (p : ℕ → Bool) → T (some n p) → Some n (λ x. T (p x))
 unfolding some
@@ -131,11 +118,7 @@ bit-set (suc n) p i l = set-step n (setOf n p) i (p n) (set-lt n p) ∙ go (belo
         (ap₂ (λ (x y : ℕ). (x + (if p n then y else 0)) % 2) (bit-above n (setOf n p) n (set-lt n p) (omega arith)) (bit-pow-same n) ∙ one (p n))
 
 pub has-set : (n : ℕ) (p : ℕ → Bool) (i : ℕ) → i < n → has (setOf n p) i ≡ p i
-has-set n p i l = go (p i) (bit-set n p i l)
-  where
-    go : (b : Bool) → bit (setOf n p) i ≡ (if b then 1 else 0) → has (setOf n p) i ≡ b
-    go true e = has-one (setOf n p) i e
-    go false e = has-zero (setOf n p) i e
+has-set n p i l = has-if (setOf n p) i (p i) (bit-set n p i l)
 
 -- a member of it is below n, and has p
 pub set-out : (n : ℕ) (p : ℕ → Bool) (i : ℕ) → T (has (setOf n p) i) → (i < n) × T (p i)

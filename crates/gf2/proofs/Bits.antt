@@ -1,15 +1,16 @@
 -- Bits of a number: of 0, of a power of two, of an XOR and of a common part; and numbers with the same bits are equal.
 -- Assumes nothing.
 use mathlib.Core.Path.{_≡_, refl, sym, ap, _∙_}
-use mathlib.Core.Bool.{true, false}
+use mathlib.Core.Bool.{Bool, true, false}
 use mathlib.Core.Logic.{_⊎_, inl, inr, _≢_}
-use Prim.Native.Nat.{ℕ, zero, suc, _+_, _*_, _/_, _%_, _^_, _≤_, _<_}
+use Prim.Native.Nat.{ℕ, zero, suc, _+_, _-_, _*_, _/_, _%_, _^_, _≤_, _<_}
 use native.Mathlib.Nat.{mod-lt, zero-lt-suc, pow-suc, mul-comm, div-div-eq-div-mul, div-one, div-eq-of-lt, div-lt-iff-lt-mul, zero-div, lt-of-lt-of-le, mul-div-cancel, mul-mod-left}
 use native.Mathlib.Omega.{arith}
 use lib.Arith.{lt-one}
 use lib.Bits.{bitAnd, bitXor, and-shr, and-mod, xor-shr, xor-mod, and-mask}
 use lib.Dec.{T, eqb}
-use lib.Pow.{pow-mono}
+use lib.Pow.{pow-mono, shr-shr, field, mod-mod-pow}
+use Rattle.gf2.specs.If.{if_then_else_}
 use Rattle.gf2.specs.Sets.{bit, has, _∩_, _⊕_}
 use Rattle.gf2.proofs.Tests.{eqb-in, eqb-out, T-true, T-false}
 
@@ -61,6 +62,18 @@ bit-of-zero i = ap (λ (x : ℕ). x % 2) (zero-div (2 ^ i))
 pub bit-above : (k n i : ℕ) → n < 2 ^ k → k ≤ i → bit n i ≡ 0
 unfolding bit
 bit-above k n i h l = ap (λ (x : ℕ). x % 2) (div-eq-of-lt (lt-of-lt-of-le h (pow-mono l)))
+
+-- a number's digits from k on, and its k lowest digits
+pub bit-shift : (k S j : ℕ) → bit (S / 2 ^ k) j ≡ bit S (k + j)
+unfolding bit
+bit-shift k S j = ap (λ (x : ℕ). x % 2) (shr-shr S k j)
+
+pub bit-mod : (k S i : ℕ) → i < k → bit (S % 2 ^ k) i ≡ bit S i
+unfolding bit
+bit-mod k S i l =
+    let j = k - suc i in
+    let e : k ≡ j + 1 + i = omega arith in
+    ap (λ (x : ℕ). S % 2 ^ x / 2 ^ i % 2) e ∙ ap (λ (x : ℕ). x % 2) (field S (j + 1) i) ∙ mod-mod-pow (S / 2 ^ i) j 1
 
 pow-half : (j : ℕ) → 2 ^ suc j / 2 ≡ 2 ^ j
 pow-half j = ap (λ (x : ℕ). x / 2) (pow-suc 2 j) ∙ mul-div-cancel (2 ^ j) two-pos
@@ -150,6 +163,10 @@ has-one S i e = T-true (has-in S i e)
 
 pub has-zero : (S i : ℕ) → bit S i ≡ 0 → has S i ≡ false
 has-zero S i e = T-false (not-has S i e)
+
+pub has-if : (S i : ℕ) (b : Bool) → bit S i ≡ (if b then 1 else 0) → has S i ≡ b
+has-if S i true e = has-one S i e
+has-if S i false e = has-zero S i e
 
 -- the test of the code
 pub bit-test : (S i : ℕ) → eqb (bitAnd (S / 2 ^ i) 1) 1 ≡ has S i

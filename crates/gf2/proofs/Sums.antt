@@ -1,11 +1,11 @@
 -- Laws of `over`, the XOR of f over the disks of a set, and of `select`, which is `over` of the rows.
 -- Assumes nothing.
-use mathlib.Core.Path.{_≡_, refl, sym, ap, ap₂, _∙_}
+use mathlib.Core.Path.{_≡_, refl, sym, ap, ap₂, _∙_, subst}
 use mathlib.Core.Bool.{Bool, true, false}
-use mathlib.Core.Logic.{_⊎_, inl, inr}
+use mathlib.Core.Logic.{_⊎_, inl, inr, ⊎-elim}
 use mathlib.Core.List.{List, [], _∷_}
 use Prim.Native.Nat.{ℕ, zero, suc, _+_, _*_, _/_, _%_, _^_, _<_}
-use native.Mathlib.Nat.{pow-suc}
+use native.Mathlib.Nat.{pow-suc, not-suc-le-zero, lt-irrefl, add-zero, add-suc}
 use native.Mathlib.Omega.{arith}
 use lib.Dec.{T, eqb}
 use lib.ListN.{length, getD}
@@ -13,7 +13,8 @@ use lib.Pow.{pow-pos}
 use Rattle.gf2.specs.If.{if_then_else_}
 use Rattle.gf2.specs.Sets.{bit, has, _⊕_, over}
 use Rattle.gf2.specs.Span.{InSpan, select}
-use Rattle.gf2.proofs.Bits.{bit-cases, bit-low, bit-suc, bit-of-zero, bit-⊕, bit-⊕-bits, not-has, has-one, has-zero}
+use Rattle.gf2.proofs.Tests.{dec, T-true, T-false, T-ext, eqb-in, eqb-out, below-suc}
+use Rattle.gf2.proofs.Bits.{bit-cases, bit-low, bit-suc, bit-of-zero, bit-shift, bit-pow-same, bit-pow-other, bit-⊕, bit-⊕-bits, has-in, not-has, has-one, has-zero}
 use Rattle.gf2.proofs.Xor.{⊕-assoc, ⊕-self, zero-⊕, ⊕-zero, ⊕-back, ⊕-four, ⊕-lt}
 use Rattle.gf2.proofs.Spans.{at}
 
@@ -100,6 +101,73 @@ over-first zero S f = zero-⊕ (if has S 0 then f 0 else 0) ∙ sym (⊕-zero (i
 over-first (suc n) S f =
     ap₂ (λ (a b : ℕ). a ⊕ (if eqb b 1 then f (suc n) else 0)) (over-first n S f) (bit-suc S n)
     ∙ ⊕-assoc (if has S 0 then f 0 else 0) (over n (S / 2) (λ i. f (suc i))) (if has (S / 2) n then f (suc n) else 0)
+
+pub if-has : (S i : ℕ) → (if has S i then 1 else 0) ≡ bit S i
+if-has S i = ⊎-elim (λ e. rw (has-zero S i e) (sym e)) (λ e. rw (has-one S i e) (sym e)) (bit-cases S i)
+
+-- sets with the same disks below n
+pub over-set : (n R S : ℕ) (f : ℕ → ℕ) → ((i : ℕ) → i < n → has R i ≡ has S i) → over n R f ≡ over n S f
+unfolding over
+over-set zero R S f h = refl
+over-set (suc n) R S f h =
+    ap₂ (λ (a : ℕ) (b : Bool). a ⊕ (if b then f n else 0)) (over-set n R S f (λ i l. h i (omega arith))) (h n (omega arith))
+
+-- a set with one disk below n
+pub over-only : (n S d : ℕ) (f : ℕ → ℕ) → d < n → ((i : ℕ) → i < n → has S i ≡ eqb i d) → over n S f ≡ f d
+unfolding over
+over-only zero S d f l h = absurd (not-suc-le-zero l)
+over-only (suc n) S d f l h = go (below-suc d n l) (λ m. over-only n S d f m (λ i k. h i (omega arith)))
+  where
+    go : (d < n) ⊎ (d ≡ n) → (d < n → over n S f ≡ f d) → over n S f ⊕ (if has S n then f n else 0) ≡ f d
+    go (inl m) rest =
+        rw (h n (omega arith), T-false {b = eqb n d} (λ u. lt-irrefl n (subst (λ (y : ℕ). y < n) (sym (eqb-out n d u)) m)))
+        (⊕-zero (over n S f) ∙ rest m)
+    go (inr q) rest =
+        rw (h n (omega arith), T-true {b = eqb n d} (eqb-in (sym q)))
+        (ap (λ (a : ℕ). a ⊕ f n)
+        (over-cong n S f (λ i. 0)
+        (λ i m t. absurd (lt-irrefl n (subst (λ (y : ℕ). y < n) (eqb-out i d (subst T (h i (omega arith)) t) ∙ q) m)))
+        ∙ over-zero n S)
+        ∙ zero-⊕ (f n) ∙ ap f (sym q))
+
+-- the disks below k, and those from k on
+pub over-append : (k m S : ℕ) (f : ℕ → ℕ) → over (k + m) S f ≡ over k S f ⊕ over m (S / 2 ^ k) (λ j. f (k + j))
+unfolding over has
+over-append k zero S f = ap (λ (n : ℕ). over n S f) (add-zero k) ∙ sym (⊕-zero (over k S f))
+over-append k (suc m) S f =
+    ap (λ (n : ℕ). over n S f) (add-suc k m)
+    ∙ ap₂ (λ (a b : ℕ). a ⊕ (if eqb b 1 then f (k + m) else 0)) (over-append k m S f) (sym (bit-shift k S m))
+    ∙ ⊕-assoc (over k S f) (over m (S / 2 ^ k) (λ j. f (k + j))) (if has (S / 2 ^ k) m then f (k + m) else 0)
+
+-- the XOR of the bits of x in c is that of the bits of c in x
+pub over-comm : (n c x : ℕ) → over n c (bit x) ≡ over n x (bit c)
+unfolding over
+over-comm zero c x = refl
+over-comm (suc n) c x = ap₂ (λ (a b : ℕ). a ⊕ b) (over-comm n c x) (go (bit-cases c n) (bit-cases x n))
+  where
+    go : (bit c n ≡ 0) ⊎ (bit c n ≡ 1) → (bit x n ≡ 0) ⊎ (bit x n ≡ 1) → (if has c n then bit x n else 0) ≡ (if has x n then bit c n else 0)
+    go (inl p) (inl q) = rw (has-zero c n p, has-zero x n q)
+    go (inl p) (inr q) = rw (has-zero c n p, has-one x n q) (sym p)
+    go (inr p) (inl q) = rw (has-one c n p, has-zero x n q) q
+    go (inr p) (inr q) = rw (has-one c n p, has-one x n q) (q ∙ sym p)
+
+-- a sum with one term, written in two ways
+pub over-power : (n S d : ℕ) → d < n → over n S (bit (2 ^ d)) ≡ bit S d
+over-power n S d l =
+    over-comm n S (2 ^ d)
+    ∙ over-only n (2 ^ d) d (bit S) l (λ i m. T-ext (λ t. alone i t (dec (eqb i d))) (λ t. has-in (2 ^ d) i (ap (bit (2 ^ d)) (eqb-out i d t) ∙ bit-pow-same d)))
+  where
+    alone : (i : ℕ) → T (has (2 ^ d) i) → T (eqb i d) ⊎ (T (eqb i d) → ⊥) → T (eqb i d)
+    alone i t (inl u) = u
+    alone i t (inr f) = absurd (not-has (2 ^ d) i (bit-pow-other d i (λ e. f (eqb-in e))) t)
+
+pub over-one : (n S d : ℕ) → d < n → over n S (λ i. if eqb d i then 1 else 0) ≡ bit S d
+over-one n S d l =
+    over-cong n S (λ i. if eqb d i then 1 else 0) (bit (2 ^ d)) (λ i m t. power i (dec (eqb d i))) ∙ over-power n S d l
+  where
+    power : (i : ℕ) → T (eqb d i) ⊎ (T (eqb d i) → ⊥) → (if eqb d i then 1 else 0) ≡ bit (2 ^ d) i
+    power i (inl t) = rw (T-true {b = eqb d i} t) (sym (bit-pow-same d) ∙ ap (bit (2 ^ d)) (eqb-out d i t))
+    power i (inr f) = rw (T-false {b = eqb d i} f) (sym (bit-pow-other d i (λ e. f (eqb-in (sym e)))))
 
 -- ---- select
 

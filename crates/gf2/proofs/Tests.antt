@@ -3,7 +3,10 @@
 use mathlib.Core.Path.{_≡_, refl, sym, subst}
 use mathlib.Core.Bool.{Bool, true, false, not, _&&_, _||_}
 use mathlib.Core.Logic.{_⊎_, inl, inr, _≢_}
-use Prim.Native.Nat.{ℕ, _≤_, _<_}
+use Prim.Native.Nat.{ℕ, suc, _≤_, _<_}
+use native.Mathlib.Nat.{le-suc-iff}
+use native.Mathlib.Decide.{decLt}
+use native.Mathlib.Omega.{arith}
 use lib.Dec.{T, eqb, ltb, leb, eqb→eq, eqb-refl, ltb→lt, lt→ltb, leb→le, le→leb, T-not, not-T}
 use Rattle.gf2.specs.If.{if_then_else_}
 
@@ -81,6 +84,17 @@ leb-in {a} {b} = le→leb a b
 
 pub leb-out : (a b : ℕ) → T (leb a b) → a ≤ b
 leb-out = leb→le
+
+-- below suc n: below n, or n
+pub below-suc : (i n : ℕ) → i < suc n → (i < n) ⊎ (i ≡ n)
+below-suc i n l = go (le-suc-iff .0 l)
+  where
+    go : (suc i ≤ n) ⊎ (suc i ≡ suc n) → (i < n) ⊎ (i ≡ n)
+    go (inl m) = inl m
+    go (inr q) = inr (omega arith)
+
+pub below-or : (i n : ℕ) → (i < n) ⊎ (n ≤ i)
+below-or i n = elim (decLt i n) [ yes h ↦ inl h | no h ↦ inr (omega arith) ]
 
 -- ---- a choice
 

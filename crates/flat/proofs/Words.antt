@@ -1,0 +1,133 @@
+-- What the disks hold is linear in the data, and so is the codeword of a data word.
+-- Assumes nothing.
+use mathlib.Core.Path.{_≡_, refl, sym, ap, ap₂, _∙_, subst}
+use mathlib.Core.Bool.{Bool, true, false}
+use mathlib.Core.Logic.{_⊎_, inl, inr, _≢_}
+use Prim.Native.Nat.{ℕ, zero, suc, _+_, _-_, _*_, _/_, _%_, _^_, _≤_, _<_}
+use native.Mathlib.Nat.{mod-lt, zero-mod}
+use native.Mathlib.Omega.{arith}
+use borrow.Author.Tests.{lt-ltb, le-ltb}
+use lib.Dec.{T, ltb, eqb}
+use lib.Pow.{pow-pos}
+use Rattle.gf2.specs.If.{if_then_else_}
+use Rattle.gf2.specs.Sets.{bit, has, _⊕_, over}
+use Rattle.gf2.proofs.Tests.{ltb-out}
+use Rattle.gf2.proofs.Bits.{bit-lt, two-cases, bit-cases, bit-⊕-bits, bit-of-zero, bit-mod, ext-below}
+use Rattle.gf2.proofs.Xor.{⊕-lt, ⊕-self, ⊕-zero, zero-⊕}
+use Rattle.gf2.proofs.Sums.{over-cong, over-sum, over-zero, over-bit, over-lt}
+use Rattle.flat.specs.Cards.{Code, disks, column, dataPart}
+use Rattle.flat.specs.Strips.{holds}
+use Rattle.flat.specs.Erasures.{holdsBit}
+use Rattle.flat.specs.Spans.{codeword}
+use Rattle.flat.proofs.Quantifiers.{set-lt, bit-set}
+
+-- ---- what a disk holds, of bits and of bytes
+
+module _ (C : Code) where
+  -- only the data disks matter
+  pub holds-cong : (v w : ℕ → ℕ) (i : ℕ) → ((d : ℕ) → d < C .k → v d ≡ w d) → holds C v i ≡ holds C w i
+  unfolding holds
+  holds-cong v w i e = go (ltb i (C .k)) (λ t. e i (ltb-out i (C .k) t))
+    where
+      go : (b : Bool) → (T b → v i ≡ w i)
+          → (if b then v i else over (C .k) (column C (i - C .k)) v) ≡ (if b then w i else over (C .k) (column C (i - C .k)) w)
+      go true h = h tt
+      go false h = over-cong (C .k) (column C (i - C .k)) v w (λ d l t. e d l)
+
+  pub holds-⊕ : (v w : ℕ → ℕ) (i : ℕ) → holds C (λ d. v d ⊕ w d) i ≡ holds C v i ⊕ holds C w i
+  unfolding holds
+  holds-⊕ v w i = go (ltb i (C .k))
+    where
+      at : (ℕ → ℕ) → Bool → ℕ
+      at u b = if b then u i else over (C .k) (column C (i - C .k)) u
+
+      go : (b : Bool) → at (λ d. v d ⊕ w d) b ≡ at v b ⊕ at w b
+      go true = refl
+      go false = over-sum (C .k) (column C (i - C .k)) v w
+
+  pub holds-zero : (i : ℕ) → holds C (λ d. 0) i ≡ 0
+  unfolding holds
+  holds-zero i = go (ltb i (C .k))
+    where
+      go : (b : Bool) → (if b then 0 else over (C .k) (column C (i - C .k)) (λ d. 0)) ≡ 0
+      go true = refl
+      go false = over-zero (C .k) (column C (i - C .k))
+
+  -- bit b of what a disk holds is what it holds of the bits b
+  pub bit-holds : (v : ℕ → ℕ) (i b : ℕ) → bit (holds C v i) b ≡ holds C (λ d. bit (v d) b) i
+  unfolding holds
+  bit-holds v i b = go (ltb i (C .k))
+    where
+      go : (t : Bool) → bit (if t then v i else over (C .k) (column C (i - C .k)) v) b
+          ≡ (if t then bit (v i) b else over (C .k) (column C (i - C .k)) (λ d. bit (v d) b))
+      go true = refl
+      go false = over-bit (C .k) (column C (i - C .k)) v b
+
+  pub holds-lt : (w : ℕ) (v : ℕ → ℕ) (i : ℕ) → ((d : ℕ) → v d < 2 ^ w) → holds C v i < 2 ^ w
+  unfolding holds
+  holds-lt w v i h = go (ltb i (C .k))
+    where
+      go : (b : Bool) → (if b then v i else over (C .k) (column C (i - C .k)) v) < 2 ^ w
+      go true = h i
+      go false = over-lt w (C .k) (column C (i - C .k)) v (λ d l t. h d)
+
+  pub holds-parity : (v : ℕ → ℕ) (j : ℕ) → holds C v (C .k + j) ≡ over (C .k) (column C j) v
+  unfolding holds
+  holds-parity v j =
+      let e : C .k + j - C .k ≡ j = omega arith in rw (le-ltb (C .k + j) (C .k) (omega arith), e)
+
+  -- ---- of a data word
+
+  pub word-lt : (x i : ℕ) → holdsBit C x i < 2
+  unfolding holdsBit
+  word-lt x i = holds-lt 1 (bit x) i (bit-lt x)
+
+  pub word-⊕ : (x y i : ℕ) → holdsBit C (x ⊕ y) i ≡ holdsBit C x i ⊕ holdsBit C y i
+  unfolding holdsBit
+  word-⊕ x y i = holds-cong (bit (x ⊕ y)) (λ d. bit x d ⊕ bit y d) i (λ d l. bit-⊕-bits x y d) ∙ holds-⊕ (bit x) (bit y) i
+
+  pub word-zero : (i : ℕ) → holdsBit C 0 i ≡ 0
+  unfolding holdsBit
+  word-zero i = holds-cong (bit 0) (λ d. 0) i (λ d l. bit-of-zero d) ∙ holds-zero i
+
+  pub word-data : (x i : ℕ) → i < C .k → holdsBit C x i ≡ bit x i
+  unfolding holdsBit holds
+  word-data x i l = rw (lt-ltb i (C .k) l)
+
+  -- ---- its codeword
+
+  pub codeword-lt : (x : ℕ) → codeword C x < 2 ^ disks C
+  unfolding codeword
+  codeword-lt x = set-lt (disks C) (λ i. eqb (holdsBit C x i) 1)
+
+  pub codeword-bit : (x i : ℕ) → i < disks C → bit (codeword C x) i ≡ holdsBit C x i
+  unfolding codeword
+  codeword-bit x i l = bit-set (disks C) (λ j. eqb (holdsBit C x j) 1) i l ∙ go (two-cases (holdsBit C x i) (word-lt x i))
+    where
+      go : (holdsBit C x i ≡ 0) ⊎ (holdsBit C x i ≡ 1) → (if eqb (holdsBit C x i) 1 then 1 else 0) ≡ holdsBit C x i
+      go (inl e) = rw e
+      go (inr e) = rw e
+
+  pub codeword-⊕ : (x y : ℕ) → codeword C (x ⊕ y) ≡ codeword C x ⊕ codeword C y
+  codeword-⊕ x y =
+      ext-below (disks C) (codeword C (x ⊕ y)) (codeword C x ⊕ codeword C y) (codeword-lt (x ⊕ y))
+      (⊕-lt (disks C) (codeword C x) (codeword C y) (codeword-lt x) (codeword-lt y))
+      (λ i l. codeword-bit (x ⊕ y) i l ∙ word-⊕ x y i ∙ ap₂ (λ (a b : ℕ). a ⊕ b) (sym (codeword-bit x i l)) (sym (codeword-bit y i l))
+      ∙ sym (bit-⊕-bits (codeword C x) (codeword C y) i))
+
+  pub codeword-zero : codeword C 0 ≡ 0
+  codeword-zero =
+      ext-below (disks C) (codeword C 0) 0 (codeword-lt 0) (pow-pos (disks C)) (λ i l. codeword-bit 0 i l ∙ word-zero i ∙ sym (bit-of-zero i))
+
+-- ---- data parts
+
+-- a codeword's data part is its data word
+pub codeword-data : (C : Code) (x : ℕ) → x < 2 ^ C .k → dataPart C (codeword C x) ≡ x
+unfolding dataPart disks
+codeword-data C x l =
+    ext-below (C .k) (codeword C x % 2 ^ C .k) x (mod-lt (codeword C x) (pow-pos (C .k))) l
+    (λ i h. bit-mod (C .k) (codeword C x) i h ∙ codeword-bit C x i (omega arith) ∙ word-data C x i h)
+
+pub codeword-nonzero : (C : Code) (x : ℕ) → x < 2 ^ C .k → x ≢ 0 → codeword C x ≢ 0
+unfolding dataPart
+codeword-nonzero C x l f e = f (sym (codeword-data C x l) ∙ ap (dataPart C) e ∙ zero-mod (2 ^ C .k))
