@@ -1,0 +1,4 @@
+pub mod Laws
+pub mod Loops
+pub mod Theorems
+pub mod Callers

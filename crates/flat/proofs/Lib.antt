@@ -5,5 +5,8 @@ pub mod RoundTrip
 pub mod Quantifiers
 pub mod Words
 pub mod Rows
+pub mod Fatal
+pub mod Separation
+pub mod Duality
 pub mod Theorems
 pub mod Worked

@@ -11,11 +11,12 @@ use lib.Dec.{T, eqb}
 use lib.ListN.{length, getD}
 use lib.Pow.{pow-pos}
 use Rattle.gf2.specs.If.{if_then_else_}
-use Rattle.gf2.specs.Sets.{bit, has, _⊕_, over}
+use Rattle.gf2.specs.Sets.{bit, has, _⊕_, _∖_, over}
 use Rattle.gf2.specs.Span.{InSpan, select}
 use Rattle.gf2.proofs.Tests.{dec, T-true, T-false, T-ext, eqb-in, eqb-out, below-suc}
 use Rattle.gf2.proofs.Bits.{bit-cases, bit-low, bit-suc, bit-of-zero, bit-shift, bit-pow-same, bit-pow-other, bit-⊕, bit-⊕-bits, has-in, not-has, has-one, has-zero}
 use Rattle.gf2.proofs.Xor.{⊕-assoc, ⊕-self, zero-⊕, ⊕-zero, ⊕-back, ⊕-four, ⊕-lt}
+use Rattle.gf2.proofs.Subsets.{∖-in, ∖-out}
 use Rattle.gf2.proofs.Spans.{at}
 
 -- ---- over
@@ -138,6 +139,29 @@ over-append k (suc m) S f =
     ap (λ (n : ℕ). over n S f) (add-suc k m)
     ∙ ap₂ (λ (a b : ℕ). a ⊕ (if eqb b 1 then f (k + m) else 0)) (over-append k m S f) (sym (bit-shift k S m))
     ∙ ⊕-assoc (over k S f) (over m (S / 2 ^ k) (λ j. f (k + j))) (if has (S / 2 ^ k) m then f (k + m) else 0)
+
+-- a sum over a sum
+pub over-over : (k n S : ℕ) (f g : ℕ → ℕ) → over k (over n S f) g ≡ over n S (λ i. over k (f i) g)
+unfolding over
+over-over k zero S f g = over-none k g
+over-over k (suc n) S f g =
+    over-⊕ k (over n S f) (if has S n then f n else 0) g ∙ ap₂ (λ (a b : ℕ). a ⊕ b) (over-over k n S f g) (go (has S n))
+  where
+    go : (b : Bool) → over k (if b then f n else 0) g ≡ (if b then over k (f n) g else 0)
+    go true = refl
+    go false = over-none k g
+
+-- without the disks of S
+pub over-less : (n R S : ℕ) (f : ℕ → ℕ) → over n R (λ i. if has S i then 0 else f i) ≡ over n (R ∖ S) f
+unfolding over
+over-less zero R S f = refl
+over-less (suc n) R S f = ap₂ (λ (a b : ℕ). a ⊕ b) (over-less n R S f) (go (dec (has R n)) (dec (has S n)))
+  where
+    go : T (has R n) ⊎ (T (has R n) → ⊥) → T (has S n) ⊎ (T (has S n) → ⊥)
+        → (if has R n then (if has S n then 0 else f n) else 0) ≡ (if has (R ∖ S) n then f n else 0)
+    go (inl p) (inl q) = rw (T-true {b = has R n} p, T-true {b = has S n} q, T-false {b = has (R ∖ S) n} (λ t. ∖-out R S n t .1 q))
+    go (inl p) (inr q) = rw (T-true {b = has R n} p, T-false {b = has S n} q, T-true {b = has (R ∖ S) n} (∖-in R S n p q))
+    go (inr p) q = rw (T-false {b = has R n} p, T-false {b = has (R ∖ S) n} (λ t. p (∖-out R S n t .0)))
 
 -- the XOR of the bits of x in c is that of the bits of c in x
 pub over-comm : (n c x : ℕ) → over n c (bit x) ≡ over n x (bit c)

@@ -1,0 +1,109 @@
+-- The report of a code and of a card at each way out of the tests, what a refusal leaves, and what the code's shift and slice give.
+-- Assumes nothing.
+use mathlib.Core.Path.{_≡_, sym, ap, _∙_}
+use mathlib.Core.Bool.{Bool, true, false, not}
+use mathlib.Core.List.{List, [], _∷_}
+use Prim.Native.Nat.{ℕ, _+_, _-_, _*_, _%_, _^_, _≤_, _<_}
+use native.Mathlib.Nat.{one-mul}
+use native.Mathlib.Omega.{arith}
+use borrow.Author.Tests.{lt-ltb, le-ltb}
+use lib.Dec.{lit<, eqb}
+use lib.ListN.{length, getD, take, drop, replicate, length-drop}
+use lib.Seq.{take-all}
+use lib.Pow.{shl-exact}
+use Rattle.gf2.specs.If.{if_then_else_}
+use Rattle.flat.specs.Lists.{padded}
+use Rattle.flat.specs.Cards.{Code, code, countOk, firstBad, cardLength, cardBytes, columnsIn, codeOf}
+use Rattle.flat.specs.Faults.{Report, accepted, refused, unlessRefused, codeReport, cardReport, cardColumns, cardWriteReport, cardWriteBuffer}
+use Rattle.flat.proofs.Reports.{unless-accepted, unless-refused}
+use Rattle.flat.proofs.Cards.{sound-report}
+use Rattle.card.specs.declared.CardFault.{CardFault}
+use Rattle.card.specs.declared.CardFault.the-variants.{Short, DataCount, ParityCount, Length, Column}
+use Rattle.card.specs.Reports.{faultReport}
+
+-- ---- what the code computes
+
+-- the column limit, by a shift
+pub shifted : (k : ℕ) → k ≤ 16 → (1 * 2 ^ k) % 2 ^ 32 ≡ 2 ^ k
+shifted k h = shl-exact 1 k 32 (lit< tt) (omega arith) ∙ one-mul (2 ^ k)
+
+-- the bytes from n on, as the code lends them
+pub rest : (n : ℕ) (l : List ℕ) → take (length l - n) (drop n l) ≡ drop n l
+rest n l = take-all (length l - n) (drop n l) (omega (arith, length-drop n l))
+
+-- ---- the report of a code at each way out
+
+module _ (C : Code) (sized : Bool) (next : Report) where
+  pub code-data : countOk (C .k) ≡ false → refused 2 [] ≡ codeReport C sized next
+  unfolding codeReport
+  code-data e = simp e
+
+  module _ (ek : countOk (C .k) ≡ true) where
+    pub code-parity : countOk (C .m) ≡ false → refused 3 [] ≡ codeReport C sized next
+    unfolding codeReport
+    code-parity e = simp (ek, e)
+
+    module _ (em : countOk (C .m) ≡ true) where
+      pub code-length : sized ≡ false → refused 4 [] ≡ codeReport C sized next
+      unfolding codeReport
+      code-length e = simp (ek, em, e)
+
+      module _ (es : sized ≡ true) where
+        pub code-column : (j : ℕ) → j ≡ firstBad (C .k) (C .columns) → j < C .m → refused 5 (j ∷ []) ≡ codeReport C sized next
+        unfolding codeReport
+        code-column j e h = simp (ek, em, es, sym e, lt-ltb _ _ h)
+
+        pub code-good : (j : ℕ) → j ≡ firstBad (C .k) (C .columns) → C .m ≤ j → next ≡ codeReport C sized next
+        code-good j e h =
+            sym (ap (λ (b : Bool). codeReport C b next) es ∙ sound-report C next (record { k-ok = ek; m-ok = em; first = omega arith }))
+
+-- ---- the reports of a card and of a card to be written
+
+pub card-short : (card : List ℕ) → length card < 2 → refused 1 [] ≡ cardReport card
+unfolding cardReport
+card-short card h = simp (lt-ltb _ _ h)
+
+-- past the first test a card's report is that of its code
+pub card-tests : (card : List ℕ) {r : Report} → 2 ≤ length card →
+    let k = getD card 0 0 in
+    let m = getD card 1 0 in
+    r ≡ codeReport (code k m (columnsIn m (drop 2 card))) (eqb (length card) (2 + 2 * m)) (accepted (k ∷ m ∷ [])) → r ≡ cardReport card
+unfolding cardReport codeOf cardLength
+card-tests card h e = simp (le-ltb _ _ h) e
+
+-- the writer's report is that of the code, then that of the buffer
+pub write-tests : (C : Code) (n : ℕ) {r : Report}
+    → r ≡ codeReport C (eqb (length (C .columns)) (C .m)) (if not (eqb n (2 + 2 * C .m)) then refused 7 [] else accepted [])
+    → r ≡ cardWriteReport C n
+unfolding cardWriteReport cardLength
+write-tests C n e = e
+
+-- ---- refusals
+
+-- a report that is a fault's refuses
+module _ {A : Type 0} where
+  pub unless-fault : (f : CardFault) (r : Report) (new old : A) → faultReport f ≡ r → unlessRefused r new old ≡ old
+  unless-fault Short r new old e = unless-refused r _ _ new old (sym e)
+  unless-fault DataCount r new old e = unless-refused r _ _ new old (sym e)
+  unless-fault ParityCount r new old e = unless-refused r _ _ new old (sym e)
+  unless-fault Length r new old e = unless-refused r _ _ new old (sym e)
+  unless-fault (Column j) r new old e = unless-refused r _ _ new old (sym e)
+
+-- a refused card has no columns
+pub columns-refused : (card : List ℕ) (f : CardFault) → faultReport f ≡ cardReport card → replicate 16 0 ≡ cardColumns card
+unfolding cardColumns padded
+columns-refused card f e = sym (ap (padded 16) (unless-fault f (cardReport card) (codeOf card .columns) [] e))
+
+-- the buffer after the card writer's answer
+module _ (C : Code) (buffer : List ℕ) where
+  pub buffer-refused : (f : CardFault) → faultReport f ≡ cardWriteReport C (length buffer) → buffer ≡ cardWriteBuffer C buffer
+  unfolding cardWriteBuffer
+  buffer-refused f e = sym (unless-fault f (cardWriteReport C (length buffer)) (cardBytes C) buffer e)
+
+  pub buffer-other : refused 7 [] ≡ cardWriteReport C (length buffer) → buffer ≡ cardWriteBuffer C buffer
+  unfolding cardWriteBuffer
+  buffer-other e = sym (unless-refused (cardWriteReport C (length buffer)) 6 [] (cardBytes C) buffer (sym e))
+
+  pub buffer-written : accepted [] ≡ cardWriteReport C (length buffer) → cardBytes C ≡ cardWriteBuffer C buffer
+  unfolding cardWriteBuffer
+  buffer-written e = sym (unless-accepted (cardWriteReport C (length buffer)) [] (cardBytes C) buffer (sym e))

@@ -1,0 +1,156 @@
+-- `card::check` meets its contract: at each way out the report is that of the card's tests.
+-- Assumes nothing.
+use mathlib.Core.Path.{_≡_, sym, ap, _∙_}
+use mathlib.Core.Bool.{true}
+use mathlib.Core.List.{List}
+use Prim.Native.Nat.{ℕ, _≤_}
+use native.Mathlib.Omega.{arith}
+use borrow.Author.Tests.{not-true, not-false, eq-eqb, ne-eqb}
+use borrow.Author.Needs.{needs}
+use denote.Ref.{now}
+use lib.ListN.{length, getD, take, drop, length-drop}
+use lib.Seq.{length-take-le}
+use Rattle.flat.specs.Lists.{padded}
+use Rattle.flat.specs.Cards.{countOk, firstBad, columnsIn}
+use Rattle.flat.proofs.Lists.{length-padded, take-padded}
+use Rattle.flat.proofs.Cards.{count-in, length-columns}
+use Rattle.card.proofs.Laws.{code-data, code-parity, code-length, code-column, code-good, card-short, card-tests, rest}
+use Rattle.card.proofs.check.Statement.{statement}
+use Rattle.card.proofs.check.Tie as tie
+
+returns : tie.Need-returns
+returns c = card-short _ (c .if1 .taken)
+
+shared-slice-read-k : tie.Need-shared-slice-read-k
+shared-slice-read-k c = search needs
+
+cast-k : tie.Need-cast-k
+cast-k c = omega (arith, c .shared-slice-known2 .given 0)
+
+shared-slice-read-m : tie.Need-shared-slice-read-m
+shared-slice-read-m c = search needs
+
+cast-m : tie.Need-cast-m
+cast-m c = omega (arith, c .shared-slice-known3 .given 1)
+
+count-ok-requires : tie.Need-count-ok-requires
+count-ok-requires c κs = search needs
+
+returns-2 : tie.Need-returns-2
+returns-2 c = card-tests _ (c .before .before .before .before .if1 .left) (code-data _ _ _ (sym (c .before .count-ok .ensures) ∙ not-true _ (c .if2 .taken)))
+
+-- what is known past the tests of k and of m
+abbrev cardAt : tie.Else2 → List ℕ
+cardAt c = now (c .before .before .before .before .before .before .args .card)
+
+long : (c : tie.Else2) → 2 ≤ length (cardAt c)
+long c = c .before .before .before .before .if1 .left
+
+k-good : (c : tie.Else2) → countOk (getD (cardAt c) 0 0) ≡ true
+k-good c = sym (c .before .count-ok .ensures) ∙ not-false _ (c .if2 .left)
+
+m-good : (c : tie.Else3) → countOk (getD (cardAt (c .before .before)) 1 0) ≡ true
+m-good c = sym (c .before .count-ok2 .ensures) ∙ not-false _ (c .if3 .left)
+
+count-ok-requires-2 : tie.Need-count-ok-requires-2
+count-ok-requires-2 c κs = search needs
+
+returns-3 : tie.Need-returns-3
+returns-3 c =
+    card-tests _ (long (c .before .before))
+    (code-parity _ _ _ (k-good (c .before .before)) (sym (c .before .count-ok2 .ensures) ∙ not-true _ (c .if3 .taken)))
+
+mul-if4 : tie.Need-mul-if4
+mul-if4 c = omega (arith, count-in _ (m-good c))
+
+add-if4 : tie.Need-add-if4
+add-if4 c = omega (arith, count-in _ (m-good c))
+
+returns-4 : tie.Need-returns-4
+returns-4 c =
+    let e = c .before in
+    card-tests _ (long (e .before .before)) (code-length _ _ _ (k-good (e .before .before)) (m-good e) (ne-eqb _ _ (c .if4 .taken)))
+
+sub-columns-of : tie.Need-sub-columns-of
+sub-columns-of c = search needs
+
+part-columns-of-start : tie.Need-part-columns-of-start
+part-columns-of-start c = search needs
+
+part-columns-of-end : tie.Need-part-columns-of-end
+part-columns-of-end c = search needs
+
+columns-of-requires : tie.Need-columns-of-requires
+columns-of-requires c κs =
+    let e = c .before in
+    let card = cardAt (e .before .before .before) in
+    (count-in _ (m-good (e .before)) .1, rw rest (omega (arith, length-drop 2 card, e .if4 .left)))
+
+-- the columns that the search is lent are the card's
+abbrev cardOf : tie.After-columns-of → List ℕ
+cardOf c = cardAt (c .before .before .before .before .before)
+
+columns-are : (c : tie.After-columns-of) → c .columns-of .result ≡ padded 16 (columnsIn (getD (cardOf c) 1 0) (drop 2 (cardOf c)))
+columns-are c = c .columns-of .ensures ∙ rw rest
+
+many : (c : tie.After-columns-of) → (getD (cardOf c) 1 0 ≤ 16) × (length (c .columns-of .result) ≡ 16)
+many c =
+    let h = count-in _ (m-good (c .before .before .before)) .1 in
+    let n = length-columns (getD (cardOf c) 1 0) (drop 2 (cardOf c)) in
+    (h, ap length (columns-are c) ∙ length-padded 16 _ (omega arith))
+
+array-share-prefix-columns : tie.Need-array-share-prefix-columns
+array-share-prefix-columns c = omega (arith, many c)
+
+slice-aggregate-first-bad : tie.Need-slice-aggregate-first-bad
+slice-aggregate-first-bad c = sym (length-take-le _ _ (omega (arith, many (c .before))))
+
+first-bad-requires : tie.Need-first-bad-requires
+first-bad-requires c κs = count-in _ (k-good (c .before .before .before .before .before .before)) .1
+
+bad-is : (c : tie.After-first-bad) →
+    let card = cardOf (c .before .before) in
+    c .first-bad .result ≡ firstBad (getD card 0 0) (columnsIn (getD card 1 0) (drop 2 card))
+bad-is c =
+    let card = cardOf (c .before .before) in
+    let m = getD card 1 0 in
+    c .first-bad .ensures
+    ∙ ap (firstBad (getD card 0 0)) (ap (take m) (columns-are (c .before .before)) ∙ take-padded 16 m _ (length-columns m (drop 2 card)))
+
+returns-5 : tie.Need-returns-5
+returns-5 c =
+    let e = c .before .before .before .before .before in
+    let t = e .before .before .before in
+    card-tests _ (long t) (code-column _ _ _ (k-good t) (m-good (e .before)) (eq-eqb _ _ (e .if4 .left)) _ (bad-is (c .before)) (c .if5 .taken))
+
+returns-6 : tie.Need-returns-6
+returns-6 c =
+    let e = c .before .before .before .before .before in
+    let t = e .before .before .before in
+    card-tests _ (long t) (code-good _ _ _ (k-good t) (m-good (e .before)) (eq-eqb _ _ (e .if4 .left)) _ (bad-is (c .before)) (c .if5 .left))
+
+pub check-spec : {M : Type 1} → statement M
+check-spec =
+    tie.close
+    (tie.spec
+    returns
+    shared-slice-read-k
+    cast-k
+    shared-slice-read-m
+    cast-m
+    count-ok-requires
+    returns-2
+    count-ok-requires-2
+    returns-3
+    mul-if4
+    add-if4
+    returns-4
+    sub-columns-of
+    part-columns-of-start
+    part-columns-of-end
+    columns-of-requires
+    array-share-prefix-columns
+    slice-aggregate-first-bad
+    first-bad-requires
+    returns-5
+    returns-6)

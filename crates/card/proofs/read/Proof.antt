@@ -1,0 +1,79 @@
+-- `card::read` meets its contract: the check's report, and the columns of a card that it accepts.
+-- Assumes nothing.
+use mathlib.Core.Path.{_≡_, sym, ap, _∙_}
+use mathlib.Core.List.{List}
+use Prim.Native.Nat.{ℕ}
+use native.Mathlib.Omega.{arith}
+use borrow.Author.Needs.{needs}
+use denote.Ref.{now}
+use lib.ListN.{length-drop}
+use Rattle.flat.specs.Cards.{cardLength}
+use Rattle.flat.specs.Faults.{cardReport}
+use Rattle.flat.proofs.Cards.{Accepted, count-in}
+use Rattle.flat.proofs.RoundTrip.{columns-read}
+use Rattle.card.specs.declared.CardCheck.the-variants.{Good}
+use Rattle.card.specs.Reports.{checkReport}
+use Rattle.card.proofs.Laws.{columns-refused, rest}
+use Rattle.card.proofs.Callers.{good-card}
+use Rattle.card.proofs.read.Statement.{statement}
+use Rattle.card.proofs.read.Tie as tie
+
+check-requires : tie.Need-check-requires
+check-requires c κs = search needs
+
+enum-told : tie.Need-enum-told
+enum-told c = search needs
+
+enum-known-check : tie.Need-enum-known-check
+enum-known-check c = search needs
+
+-- what is known where the check found the card good
+abbrev cardAt : tie.After-known-told → List ℕ
+cardAt c = now (c .before .before .before .before .before .args .card)
+
+found : (c : tie.After-known-told) → checkReport (Good (c .before .check2 .given .0 .0) (c .before .check2 .given .0 .1 .0)) ≡ cardReport (cardAt c)
+found c = ap checkReport (sym (c .before .check2 .given .1)) ∙ c .before .before .before .check .ensures
+
+good : (c : tie.After-known-told) → Accepted (cardAt c) (c .before .check2 .given .0 .0) (c .before .check2 .given .0 .1 .0)
+good c = good-card _ _ _ (found c)
+
+sub-columns-of : tie.Need-sub-columns-of
+unfolding cardLength
+sub-columns-of c = omega (arith, good c .size)
+
+part-columns-of-start : tie.Need-part-columns-of-start
+unfolding cardLength
+part-columns-of-start c = omega (arith, good c .size)
+
+part-columns-of-end : tie.Need-part-columns-of-end
+part-columns-of-end c = search needs
+
+columns-of-requires : tie.Need-columns-of-requires
+unfolding cardLength
+columns-of-requires c κs =
+    let g = good (c .before) in
+    (count-in _ (g .sound .m-ok) .1, rw rest (omega (arith, length-drop 2 (cardAt (c .before)), g .size)))
+
+returns : tie.Need-returns
+returns c =
+    let e = c .before .before .check .ensures in
+    (e, columns-refused _ (c .enum-told .given .0 .0) (ap checkReport (sym (c .enum-told .given .1)) ∙ e))
+
+returns-2 : tie.Need-returns-2
+returns-2 c =
+    let e = found (c .before .before) in
+    (e, c .columns-of .ensures ∙ rw rest (sym (columns-read _ _ _ (sym e))))
+
+pub read-spec : {M : Type 1} → statement M
+read-spec =
+    tie.close
+    (tie.spec
+    check-requires
+    enum-told
+    enum-known-check
+    sub-columns-of
+    part-columns-of-start
+    part-columns-of-end
+    columns-of-requires
+    returns
+    returns-2)
