@@ -162,10 +162,10 @@ module _ (C : Code) where
   pub fatal-untold : (S : ℕ) → T (fatal C S) ↔ ((d : ℕ) × (d < disks C) × T (has S d) × (Told S d → ⊥))
   fatal-untold S = (
     λ t. let r = fatal-out C S t in
-    let x = r .0 in
-    let d = lowest (codeword C x) in
-    let m : T (has (codeword C x) d) = lowest-has (codeword C x) (codeword-nonzero C x (r .1) (r .2)) in
-    (d, disk-below x d m, ⊆-out (codeword C x) S (r .3) d m, λ u. told-not-held S d (disk-below x d m) u (x, r .1, r .3, m)),
+        let x = r .0 in
+        let d = lowest (codeword C x) in
+        let m : T (has (codeword C x) d) = lowest-has (codeword C x) (codeword-nonzero C x (r .1) (r .2)) in
+        (d, disk-below x d m, ⊆-out (codeword C x) S (r .3) d m, λ u. told-not-held S d (disk-below x d m) u (x, r .1, r .3, m)),
     λ r. ⊎-elim (λ u. absurd (r .3 u)) (held-fatal S (r .0)) (told-or-held S (r .0) (r .1) (r .2)),
   )
 
@@ -173,16 +173,15 @@ module _ (C : Code) where
   unfolding undetermined
   undetermined-held S d l = (
     λ t. let a = some-out (2 ^ C .k) (λ x. some (2 ^ C .k) (λ y. differ x y)) t in
-    let b = some-out (2 ^ C .k) (λ y. differ (a .0) y) (a .2) in
-    let x = a .0 in
-    let y = b .0 in
-    let c = and-out (agreeOutside C S x y) (not (eqb (holdsBit C x d) (holdsBit C y d))) (b .2) in
-    (
-      x ⊕ y,
-      ⊕-lt (C .k) x y (a .1) (b .1),
-      agree-out C S x y (c .0),
-      apart x y (neqb-out (holdsBit C x d) (holdsBit C y d) (c .1)) (dec (has (codeword C (x ⊕ y)) d)),
-    ),
+        let b = some-out (2 ^ C .k) (λ y. differ (a .0) y) (a .2) in
+        let x = a .0 in
+        let y = b .0 in
+        let c = and-out (agreeOutside C S x y) (not (eqb (holdsBit C x d) (holdsBit C y d))) (b .2) in (
+          x ⊕ y,
+          ⊕-lt (C .k) x y (a .1) (b .1),
+          agree-out C S x y (c .0),
+          apart x y (neqb-out (holdsBit C x d) (holdsBit C y d) (c .1)) (dec (has (codeword C (x ⊕ y)) d)),
+        ),
     λ (x, b, u, m). some-in (2 ^ C .k) (λ x. some (2 ^ C .k) (λ y. differ x y)) (
       x,
       b,

@@ -79,7 +79,7 @@ module _ (C : Code) where
   fatal-inside S = (
     λ t. let r = fatal-out S t in (codeword C (r .0), rows-span C (codeword C (r .0)) .1 (r .0, r .1, refl), codeword-nonzero C (r .0) (r .1) (r .2), r .3),
     λ r. let s = rows-span C (r .0) .0 (r .1) in
-    fatal-in S (s .0) (s .1) (λ e. r .2 (sym (s .2) ∙ ap (codeword C) e ∙ codeword-zero C)) (subst (λ (w : ℕ). T (w ⊆ S)) (sym (s .2)) (r .3)),
+        fatal-in S (s .0) (s .1) (λ e. r .2 (sym (s .2) ∙ ap (codeword C) e ∙ codeword-zero C)) (subst (λ (w : ℕ). T (w ⊆ S)) (sym (s .2)) (r .3)),
   )
 
   -- a word of the codewords is a set of the code's disks
@@ -128,7 +128,7 @@ module _ (C : Code) where
   pub fatal-left : (S : ℕ) → T (fatal C S) ↔ (within S (rows C) ≢ [])
   fatal-left S = (
     λ t e. let r = fatal-inside S .0 t in
-    r .2 (subst (λ (l : List ℕ). InSpan l (r .0)) e (within-spans S (rows C) (r .0) .1 (r .1, r .3))),
+        r .2 (subst (λ (l : List ℕ). InSpan l (r .0)) e (within-spans S (rows C) (r .0) .1 (r .1, r .3))),
     λ f. go (within S (rows C)) f (within-indep S (rows C) (rows-indep C)) (λ w s. within-spans S (rows C) w .0 s),
   )
     where

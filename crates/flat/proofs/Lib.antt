@@ -8,5 +8,8 @@ pub mod Rows
 pub mod Fatal
 pub mod Separation
 pub mod Duality
+pub mod Members
+pub mod Order
+pub mod Listed
 pub mod Theorems
 pub mod Worked

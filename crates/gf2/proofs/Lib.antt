@@ -6,5 +6,6 @@ pub mod Spans
 pub mod Sums
 pub mod Elimination
 pub mod OneRow
+pub mod Sizes
 pub mod Loops
 pub mod Theorems

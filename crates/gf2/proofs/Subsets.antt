@@ -2,17 +2,18 @@
 -- Assumes nothing.
 use mathlib.Core.Path.{_≡_, sym, ap, _∙_, subst}
 use mathlib.Core.Bool.{not}
-use mathlib.Core.Logic.{_⊎_, inl, inr, _≢_}
-use Prim.Native.Nat.{ℕ, zero, suc, _+_, _*_, _/_, _%_, _^_, _<_}
+use mathlib.Core.Logic.{_⊎_, inl, inr, _≢_, ⊎-elim}
+use Prim.Native.Nat.{ℕ, zero, suc, _+_, _*_, _/_, _%_, _^_, _≤_, _<_}
 use native.Mathlib.Nat.{zero-lt-suc, mod-lt, zero-mul, one-mul}
 use native.Mathlib.Omega.{arith}
+use lib.Bits.{and-comm, and-le-r, xor-disjoint}
 use lib.Count.{trailingZeros}
 use lib.Dec.{T, eqb}
 use Rattle.gf2.specs.Sets.{bit, has, _∩_, _⊕_, _∖_, _⊆_, _⊂_}
 use Rattle.gf2.specs.Within.{lowest}
-use Rattle.gf2.proofs.Tests.{and-in, and-out, eqb-in, eqb-out, neqb-in, neqb-out, T-ext}
-use Rattle.gf2.proofs.Bits.{bit-cases, two-cases, bit-low, bit-suc, half-lt, bit-of-zero, bit-⊕, bit-∩, ext, lt-pow, has-in, has-out, has-not, not-has}
-use Rattle.gf2.proofs.Xor.{⊕-self, ⊕-cancel}
+use Rattle.gf2.proofs.Tests.{dec, and-in, and-out, eqb-in, eqb-out, neqb-in, neqb-out, T-ext}
+use Rattle.gf2.proofs.Bits.{bit-cases, two-cases, bit-low, bit-suc, half-lt, bit-of-zero, bit-pow-same, bit-pow-other, bit-⊕, bit-∩, ext, lt-pow, has-in, has-out, has-not, not-has}
+use Rattle.gf2.proofs.Xor.{⊕-assoc, ⊕-self, ⊕-zero, ⊕-cancel}
 
 -- ---- membership
 
@@ -38,6 +39,14 @@ pub ⊕-out : (a b i : ℕ) → T (has (a ⊕ b) i) → T (has a i) ⊎ T (has b
     go (inl p) (inl q) = absurd (not-has (a ⊕ b) i (bit-⊕ a b i ∙ rw (p, q)) m)
     go (inl p) (inr q) = inr (has-in b i q)
     go (inr p) q = inl (has-in a i p)
+
+pub ∩-out : (R S i : ℕ) → T (has (R ∩ S) i) → T (has R i) × T (has S i)
+∩-out R S i m = go (bit-cases R i) (bit-cases S i)
+  where
+    go : (bit R i ≡ 0) ⊎ (bit R i ≡ 1) → (bit S i ≡ 0) ⊎ (bit S i ≡ 1) → T (has R i) × T (has S i)
+    go (inl p) q = absurd (not-has (R ∩ S) i (bit-∩ R S i ∙ rw p (zero-mul (bit S i))) m)
+    go (inr p) (inl q) = absurd (not-has (R ∩ S) i (bit-∩ R S i ∙ rw (p, q)) m)
+    go (inr p) (inr q) = (has-in R i p, has-in S i q)
 
 pub same-disks : (R S : ℕ) → ((i : ℕ) → has R i ≡ has S i) → R ≡ S
 same-disks R S e = ext R S (λ i. go i (bit-cases R i))
@@ -107,6 +116,55 @@ unfolding _⊆_ _∖_
 pub none-⊆ : (R S : ℕ) → R ∖ S ≡ 0 → T (R ⊆ S)
 unfolding _⊆_ _∖_
 none-⊆ R S e = eqb-in (sym (⊕-cancel R (R ∩ S) e))
+
+-- ---- a set with one disk
+
+pub power-in : (d : ℕ) → T (has (2 ^ d) d)
+power-in d = has-in (2 ^ d) d (bit-pow-same d)
+
+pub power-out : (d i : ℕ) → T (has (2 ^ d) i) → i ≡ d
+power-out d i t = ⊎-elim (eqb-out i d) (λ f. absurd (not-has (2 ^ d) i (bit-pow-other d i (λ e. f (eqb-in e))) t)) (dec (eqb i d))
+
+pub power-⊆ : (d S : ℕ) → T (has S d) → T (2 ^ d ⊆ S)
+power-⊆ d S m = ⊆-in (2 ^ d) S (λ i t. subst (λ (x : ℕ). T (has S x)) (sym (power-out d i t)) m)
+
+-- a disk taken out of a set is XORed, or subtracted
+pub less-⊕ : (S d : ℕ) → T (has S d) → S ∖ 2 ^ d ≡ S ⊕ 2 ^ d
+unfolding _∖_ _⊆_ _∩_
+less-⊕ S d m = ap (λ (x : ℕ). S ⊕ x) (and-comm S (2 ^ d) ∙ eqb-out (2 ^ d ∩ S) (2 ^ d) (power-⊆ d S m))
+
+pub less-back : (S d : ℕ) → T (has S d) → S ∖ 2 ^ d ⊕ 2 ^ d ≡ S
+less-back S d m = ap (λ (x : ℕ). x ⊕ 2 ^ d) (less-⊕ S d m) ∙ ⊕-assoc S (2 ^ d) (2 ^ d) ∙ ap (λ (x : ℕ). S ⊕ x) (⊕-self (2 ^ d)) ∙ ⊕-zero S
+
+pub plus-has : (S d : ℕ) → (T (has S d) → ⊥) → T (has (S ⊕ 2 ^ d) d)
+plus-has S d f = has-in (S ⊕ 2 ^ d) d (bit-⊕ S (2 ^ d) d ∙ rw (has-not S d f, bit-pow-same d))
+
+pub plus-back : (S d : ℕ) → (T (has S d) → ⊥) → (S ⊕ 2 ^ d) ∖ 2 ^ d ≡ S
+plus-back S d f =
+    less-⊕ (S ⊕ 2 ^ d) d (plus-has S d f) ∙ ⊕-assoc S (2 ^ d) (2 ^ d) ∙ ap (λ (x : ℕ). S ⊕ x) (⊕-self (2 ^ d)) ∙ ⊕-zero S
+
+∖-shares : (R S : ℕ) → (R ∖ S) ∩ S ≡ 0
+∖-shares R S = ⊆-zero ((R ∖ S) ∩ S) (⊆-in ((R ∖ S) ∩ S) 0 (λ i m. let p = ∩-out (R ∖ S) S i m in absurd (∖-out R S i (p .0) .1 (p .1))))
+
+pub less-add : (S d : ℕ) → T (has S d) → (S ∖ 2 ^ d) + 2 ^ d ≡ S
+unfolding _⊕_ _∩_
+less-add S d m = sym (xor-disjoint (S ∖ 2 ^ d) (2 ^ d) (∖-shares S (2 ^ d))) ∙ less-back S d m
+
+pub less-⊆ : (Q R S : ℕ) → T (Q ⊆ R) → T (Q ∖ S ⊆ R ∖ S)
+less-⊆ Q R S t = ⊆-in (Q ∖ S) (R ∖ S) (λ i m. let p = ∖-out Q S i m in ∖-in R S i (⊆-out Q R t i (p .0)) (p .1))
+
+pub plus-⊆ : (R S d : ℕ) → (T (has S d) → ⊥) → T (R ⊆ S) → T (R ⊕ 2 ^ d ⊆ S ⊕ 2 ^ d)
+plus-⊆ R S d f t = ⊆-in (R ⊕ 2 ^ d) (S ⊕ 2 ^ d) (λ i m. ⊎-elim (λ r. old i (⊆-out R S t i r)) (λ p. subst (λ (x : ℕ). T (has (S ⊕ 2 ^ d) x)) (sym (power-out d i p)) (plus-has S d f)) (⊕-out R (2 ^ d) i m))
+  where
+    old : (i : ℕ) → T (has S i) → T (has (S ⊕ 2 ^ d) i)
+    old i m =
+        has-in (S ⊕ 2 ^ d) i
+        (bit-⊕ S (2 ^ d) i ∙ rw (has-out S i m, bit-pow-other d i (λ e. f (subst (λ (x : ℕ). T (has S x)) e m))))
+
+-- a set inside another has no larger number
+pub ⊆-le : (R S : ℕ) → T (R ⊆ S) → R ≤ S
+unfolding _⊆_ _∩_
+⊆-le R S t = subst (λ (x : ℕ). x ≤ S) (eqb-out (R ∩ S) R t) (and-le-r R S)
 
 -- ---- the lowest disk
 

@@ -25,13 +25,13 @@ shared-slice-read-k : tie.Need-shared-slice-read-k
 shared-slice-read-k c = search needs
 
 cast-k : tie.Need-cast-k
-cast-k c = omega (arith, c .shared-slice-known2 .given 0)
+cast-k c = let g = c .shared-slice-known2 .given in omega (arith, g 0, g 1)
 
 shared-slice-read-m : tie.Need-shared-slice-read-m
 shared-slice-read-m c = search needs
 
 cast-m : tie.Need-cast-m
-cast-m c = omega (arith, c .shared-slice-known3 .given 1)
+cast-m c = let g = c .shared-slice-known3 .given in omega (arith, g 0, g 1)
 
 count-ok-requires : tie.Need-count-ok-requires
 count-ok-requires c κs = search needs

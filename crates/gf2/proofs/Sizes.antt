@@ -1,0 +1,120 @@
+-- How many disks a set holds, and how many rows `within` must leave: one for each disk outside the set at most is dropped.
+-- Assumes nothing.
+use mathlib.Core.Path.{_≡_, refl, sym, ap, ap₂, _∙_, subst}
+use mathlib.Core.Logic.{_⊎_, inl, inr, _≢_, ⊎-elim}
+use mathlib.Core.List.{List, [], _∷_, map}
+use Prim.Native.Nat.{ℕ, zero, suc, _+_, _-_, _*_, _/_, _%_, _^_, _≤_, _<_}
+use native.Mathlib.Nat.{mod-eq-of-lt}
+use native.Mathlib.Omega.{arith}
+use lib.Arith.{bin-ind}
+use lib.Bits.{bitAnd, xor-shr, and-shr, and-mask, and-comm}
+use lib.Count.{ones, ones-step, ones-cat, ones-ones, ones-le}
+use lib.Dec.{T}
+use lib.ListN.{length, length-map}
+use lib.Pow.{pow-pos}
+use Rattle.gf2.specs.Sets.{bit, has, size, _∩_, _⊕_, _∖_, _⊆_}
+use Rattle.gf2.specs.Within.{lowest, clear, within}
+use Rattle.gf2.proofs.Tests.{eqb-out}
+use Rattle.gf2.proofs.Bits.{bit-low, bit-cases, bit-⊕, bit-∩, not-has}
+use Rattle.gf2.proofs.Subsets.{⊆-in, ⊆-out, ⊕-out, ∩-out, zero-⊆, ⊆-zero, ∖-in, ∖-out, ⊆-none, none-⊆, power-out, power-⊆, lowest-has}
+use Rattle.gf2.proofs.Elimination.{clear-is, clear-out, dropped-has, by-rows, within-nil, within-kept, within-dropped}
+
+-- ---- sizes
+
+pub size-lt : (n S : ℕ) → S < 2 ^ n → size S ≤ n
+unfolding size
+size-lt n S l = ones-le n S l
+
+pub size-power : (d : ℕ) → size (2 ^ d) ≡ 1
+unfolding size
+size-power d =
+    let e : 2 ^ d ≡ 1 * 2 ^ d + 0 = omega arith in
+    ap ones e ∙ ones-cat d 1 0 (pow-pos d)
+
+-- what is outside S, and what is inside: digit by digit
+low-split : (R S : ℕ) → (R ∖ S) % 2 + (R ∩ S) % 2 ≡ R % 2
+unfolding _∖_
+low-split R S =
+    ap₂ (λ (x y : ℕ). x + y) (sym (bit-low (R ∖ S)) ∙ bit-⊕ R (R ∩ S) 0) (sym (bit-low (R ∩ S)))
+    ∙ rw (bit-∩ R S 0) (go (bit-cases R 0) (bit-cases S 0)) ∙ bit-low R
+  where
+    go : (bit R 0 ≡ 0) ⊎ (bit R 0 ≡ 1) → (bit S 0 ≡ 0) ⊎ (bit S 0 ≡ 1) → (bit R 0 + bit R 0 * bit S 0) % 2 + bit R 0 * bit S 0 ≡ bit R 0
+    go (inl p) (inl q) = rw (p, q)
+    go (inl p) (inr q) = rw (p, q)
+    go (inr p) (inl q) = rw (p, q)
+    go (inr p) (inr q) = rw (p, q)
+
+half-∩ : (R S : ℕ) → (R ∩ S) / 2 ≡ (R / 2) ∩ (S / 2)
+unfolding _∩_
+half-∩ R S = and-shr R S 1
+
+half-∖ : (R S : ℕ) → (R ∖ S) / 2 ≡ (R / 2) ∖ (S / 2)
+unfolding _∖_ _⊕_
+half-∖ R S = xor-shr R (R ∩ S) 1 ∙ ap (λ (x : ℕ). (R / 2) ⊕ x) (half-∩ R S)
+
+pub size-split : (R S : ℕ) → size (R ∖ S) + size (R ∩ S) ≡ size R
+unfolding size
+size-split =
+    bin-ind (λ (R : ℕ). (S : ℕ) → ones (R ∖ S) + ones (R ∩ S) ≡ ones R) none
+    (λ R ih S.
+    let a : ones (R ∖ S) ≡ (R ∖ S) % 2 + ones ((R / 2) ∖ (S / 2)) = ones-step (R ∖ S) ∙ ap (λ (x : ℕ). (R ∖ S) % 2 + ones x) (half-∖ R S) in
+    let b : ones (R ∩ S) ≡ (R ∩ S) % 2 + ones ((R / 2) ∩ (S / 2)) = ones-step (R ∩ S) ∙ ap (λ (x : ℕ). (R ∩ S) % 2 + ones x) (half-∩ R S) in
+    omega (arith, a, b, ones-step R, ih (S / 2), low-split R S))
+  where
+    none : (S : ℕ) → ones (0 ∖ S) + ones (0 ∩ S) ≡ ones 0
+    none S =
+        ap₂ (λ (x y : ℕ). ones x + ones y) (⊆-none 0 S (zero-⊆ S)) (⊆-zero (0 ∩ S) (⊆-in (0 ∩ S) 0 (λ i m. ∩-out 0 S i m .0)))
+        ∙ (let z : ones 0 + 0 ≡ ones 0 = omega arith in ap (λ (x : ℕ). ones 0 + x) (ones-ones 0) ∙ z)
+
+-- a disk taken out
+pub size-less : (S d : ℕ) → T (has S d) → size (S ∖ 2 ^ d) + 1 ≡ size S
+unfolding _⊆_ _∩_
+size-less S d m =
+    let e : S ∩ 2 ^ d ≡ 2 ^ d = and-comm S (2 ^ d) ∙ eqb-out (2 ^ d ∩ S) (2 ^ d) (power-⊆ d S m) in
+    ap (λ (x : ℕ). size (S ∖ 2 ^ d) + x) (sym (size-power d) ∙ ap size (sym e)) ∙ size-split S (2 ^ d)
+
+-- the disks below n that are not in S
+pub size-rest : (n S : ℕ) → S < 2 ^ n → size ((2 ^ n - 1) ∖ S) + size S ≡ n
+unfolding size _∩_
+size-rest n S l =
+    ap (λ (x : ℕ). size ((2 ^ n - 1) ∖ S) + size x) (sym (mod-eq-of-lt l) ∙ sym (and-mask S n) ∙ and-comm S (2 ^ n - 1))
+    ∙ size-split (2 ^ n - 1) S ∙ ones-ones n
+
+-- ---- the rows that are left
+
+-- the disks of the rows outside S are in U
+abbrev Outside : ℕ → ℕ → List ℕ → Type 0
+Outside S U [] = Unit {0}
+Outside S U (b ∷ bs) = T (b ∖ S ⊆ U) × Outside S U bs
+
+-- rows cleared of a disk have no more than the others of U
+cleared-outside : (S U b d : ℕ) → bit b d ≡ 1 → T (b ∖ S ⊆ U) → (bs : List ℕ) → Outside S U bs → Outside S (U ∖ 2 ^ d) (map (clear d b) bs)
+cleared-outside S U b d hb ub [] o = tt
+cleared-outside S U b d hb ub (v ∷ bs) o = (
+  ⊆-in (clear d b v ∖ S) (U ∖ 2 ^ d) (λ i m. let p = ∖-out (clear d b v) S i m in
+      ∖-in U (2 ^ d) i (from i (p .0) (p .1)) (λ t. not-has (clear d b v) d (clear-out d b hb v) (subst (λ (x : ℕ). T (has (clear d b v) x)) (power-out d i t) (p .0)))),
+  cleared-outside S U b d hb ub bs (o .1),
+)
+  where
+    from : (i : ℕ) → T (has (clear d b v) i) → (T (has S i) → ⊥) → T (has U i)
+    from i m f =
+        ⊎-elim (λ e. ⊆-out (v ∖ S) U (o .0) i (∖-in v S i (subst (λ (x : ℕ). T (has x i)) e m) f))
+        (λ e. ⊎-elim (λ t. ⊆-out (v ∖ S) U (o .0) i (∖-in v S i t f)) (λ t. ⊆-out (b ∖ S) U ub i (∖-in b S i t f))
+        (⊕-out v b i (subst (λ (x : ℕ). T (has x i)) e m)))
+        (clear-is d b v)
+
+pub within-leaves : (S : ℕ) (bs : List ℕ) (U : ℕ) → Outside S U bs → length bs ≤ length (within S bs) + size U
+within-leaves S =
+    by-rows S (λ bs. (U : ℕ) → Outside S U bs → length bs ≤ length (within S bs) + size U) (λ U o. omega arith)
+    (λ b bs t ih U o. rw (within-kept S b bs t) (let h = ih U (o .1) in omega arith))
+    (λ b bs f ih U o.
+    let d = lowest (b ∖ S) in
+    let p = dropped-has S b f in
+    let u : T (has U d) = ⊆-out (b ∖ S) U (o .0) d (lowest-has (b ∖ S) (λ e. f (none-⊆ b S e))) in
+    let h = ih (U ∖ 2 ^ d) (cleared-outside S U b d (p .0) (o .0) bs (o .1)) in
+    rw (within-dropped S b bs f) (omega (arith, h, size-less U d u, length-map bs (clear d b))))
+
+-- a set inside which one row is left holds at most n + 1 disks less one for each row
+pub one-left-size : (n w : ℕ) (bs : List ℕ) → w < 2 ^ n → Outside w ((2 ^ n - 1) ∖ w) bs → length (within w bs) ≡ 1
+    → length bs + size w ≤ n + 1
+one-left-size n w bs l o e = omega (arith, within-leaves w bs ((2 ^ n - 1) ∖ w) o, size-rest n w l)
