@@ -10,6 +10,9 @@ pub mod Separation
 pub mod Duality
 pub mod Members
 pub mod Order
-pub mod Listed
+pub mod Least
+pub mod ErasuresListed
+pub mod CheckWords
+pub mod EquationsListed
 pub mod Theorems
 pub mod Worked

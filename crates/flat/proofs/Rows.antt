@@ -144,7 +144,7 @@ module _ (C : Code) where
       (λ i j l m. check-parity j i (omega arith) ∙ rw (ne-eqb i j (λ e. lt-irrefl i (subst (λ (y : ℕ). i < y) (sym e) l))))
 
   -- what p selects of the checks has p as its parity part
-  select-parity : (p i : ℕ) → i < C .m → bit (select (checks C) p) (C .k + i) ≡ bit p i
+  pub select-parity : (p i : ℕ) → i < C .m → bit (select (checks C) p) (C .k + i) ≡ bit p i
   unfolding checks
   select-parity p i l =
       ap (λ (w : ℕ). bit w (C .k + i)) (select-tabulate (C .m) p (check C)) ∙ over-bit (C .m) p (check C) (C .k + i)

@@ -1,10 +1,87 @@
 -- The proofs of the statements of specs/Theorems.antt.
 -- Assumes nothing.
-use Rattle.flat.specs.Theorems.{CardReadsBack, CardWritesBack}
-use Rattle.flat.proofs.RoundTrip.{reads-back, writes-back}
+use mathlib.Core.Path.{sym, ap, _∙_}
+use Prim.Native.Nat.{ℕ, _+_, _≤_}
+use native.Mathlib.Omega.{arith}
+use Rattle.gf2.specs.Sets.{size}
+use Rattle.gf2.proofs.Sizes.{one-left-size}
+use Rattle.flat.specs.Cards.{disks}
+use Rattle.flat.specs.Theorems
+use Rattle.flat.specs.Spans.{rows, checks}
+use Rattle.flat.specs.Erasures.{erasures}
+use Rattle.flat.specs.Equations.{equations}
+use Rattle.flat.proofs.RoundTrip as round
+use Rattle.flat.proofs.Words.{codeword-⊕}
+use Rattle.flat.proofs.Rows as spans
+use Rattle.flat.proofs.Fatal as fatal
+use Rattle.flat.proofs.Duality as duality
+use Rattle.flat.proofs.Order.{sorted-at}
+use Rattle.flat.proofs.ErasuresListed as listed
+use Rattle.flat.proofs.EquationsListed as equated
 
-card-reads-back : CardReadsBack
-card-reads-back = reads-back
+pub card-reads-back : Theorems.CardReadsBack
+card-reads-back = round.reads-back
 
-card-writes-back : CardWritesBack
-card-writes-back = writes-back
+pub card-writes-back : Theorems.CardWritesBack
+card-writes-back = round.writes-back
+
+pub codeword-linear : Theorems.CodewordLinear
+codeword-linear = codeword-⊕
+
+pub rows-span : Theorems.RowsSpan
+rows-span = spans.rows-span
+
+pub checks-span : Theorems.ChecksSpan
+checks-span = spans.checks-span
+
+pub spans-independent : Theorems.SpansIndependent
+spans-independent C = (spans.rows-indep C, spans.checks-indep C)
+
+pub fatal-holds-codeword : Theorems.FatalHoldsCodeword
+fatal-holds-codeword C S = (fatal.fatal-out C S, λ r. fatal.fatal-in C S (r .0) (r .1) (r .2) (r .3))
+
+pub fatal-leaves-row : Theorems.FatalLeavesRow
+fatal-leaves-row = fatal.fatal-left
+
+pub duality-holds : Theorems.Duality
+duality-holds = duality.fatal-untold
+
+pub undetermined-held : Theorems.UndeterminedHeld
+undetermined-held = duality.undetermined-held
+
+pub undetermined-untold : Theorems.UndeterminedUntold
+undetermined-untold = duality.undetermined-untold
+
+pub erasures-exact : Theorems.ErasuresExact
+erasures-exact C S = (listed.erasures-out C S, λ p. listed.erasures-in C S (p .0) (p .1))
+
+pub erasures-ordered : Theorems.ErasuresOrdered
+erasures-ordered C = sorted-at (listed.Before C) (erasures C) (listed.erasures-sorted C)
+
+pub one-per-data-part : Theorems.OnePerDataPart
+one-per-data-part = listed.one-per-data-part
+
+pub fatal-holds-listed : Theorems.FatalHoldsListed
+fatal-holds-listed = listed.fatal-listed
+
+pub erasures-enumerated : Theorems.ErasuresEnumerated
+erasures-enumerated = listed.erasures-enumerated
+
+pub equations-exact : Theorems.EquationsExact
+equations-exact C d E = (equated.equations-out C d E, λ p. equated.equations-in C d E (p .0) (p .1))
+
+pub equations-ordered : Theorems.EquationsOrdered
+equations-ordered C d = sorted-at (equated.Before C d) (equations C d) (equated.equations-sorted C d)
+
+pub equation-holds-listed : Theorems.EquationHoldsListed
+equation-holds-listed = equated.equation-listed
+
+pub equations-enumerated : Theorems.EquationsEnumerated
+equations-enumerated = equated.equations-enumerated
+
+pub minimal-sizes : Theorems.MinimalSizes
+unfolding disks
+minimal-sizes C w = (
+  λ s e. omega (arith, one-left-size (disks C) (rows C) (fatal.word-below C) w s e, spans.rows-length C),
+  λ s e. omega (arith, one-left-size (disks C) (checks C) (λ v t. spans.checks-span C v .0 t .0) w s e, spans.checks-length C),
+)

@@ -1,12 +1,20 @@
 -- The theorems about the definitions, in plain words above each. The proofs are those of proofs/Theorems.antt.
 -- Assumes nothing.
 use mathlib.Core.Path.{_≡_}
+use mathlib.Core.Logic.{_⊎_, _≢_, _↔_}
 use mathlib.Core.List.{List, [], _∷_}
-use Prim.Native.Nat.{ℕ}
-use lib.ListN.{length, take}
-use Rattle.flat.specs.Lists.{Bytes, padded}
-use Rattle.flat.specs.Cards.{Code, code, codeOf}
+use Prim.Native.Nat.{ℕ, _+_, _^_, _≤_, _<_}
+use lib.Dec.{T}
+use lib.ListN.{length, getD, take}
+use Rattle.gf2.specs.Sets.{has, size, _⊕_, _⊆_, over}
+use Rattle.gf2.specs.Span.{InSpan, Independent}
+use Rattle.gf2.specs.Within.{within}
+use Rattle.flat.specs.Lists.{Bytes, member, padded}
+use Rattle.flat.specs.Cards.{Code, code, codeOf, disks, dataPart}
+use Rattle.flat.specs.Erasures.{holdsBit, survivors, fatal, minimalErasure, erasures}
+use Rattle.flat.specs.Equations.{equation, minimalEquation, equations}
 use Rattle.flat.specs.Faults.{accepted, cardReport, cardColumns, cardWriteReport, cardWriteBuffer}
+use Rattle.flat.specs.Spans.{codeword, rows, checks, undetermined, erasuresByWord, equationsByParities}
 
 -- ---- cards (demand 2)
 
@@ -25,3 +33,110 @@ CardWritesBack =
     → (buffer : List ℕ) → length buffer ≡ length card
     → (cardWriteReport (code k m (take m (cardColumns card))) (length buffer) ≡ accepted [])
     × (cardWriteBuffer (code k m (take m (cardColumns card))) buffer ≡ card)
+
+-- ---- a code as two spans
+
+-- The codeword of x ⊕ y is that of x, XORed with that of y.
+abbrev pub CodewordLinear : Type 0
+CodewordLinear = (C : Code) (x y : ℕ) → codeword C (x ⊕ y) ≡ codeword C x ⊕ codeword C y
+
+-- The rows span the codewords.
+abbrev pub RowsSpan : Type 0
+RowsSpan = (C : Code) (w : ℕ) → InSpan (rows C) w ↔ ((x : ℕ) × (x < 2 ^ C .k) × (codeword C x ≡ w))
+
+-- The checks span the sets of the code's disks whose bits XOR to 0 for every data word.
+abbrev pub ChecksSpan : Type 0
+ChecksSpan =
+    (C : Code) (E : ℕ)
+    → InSpan (checks C) E ↔ ((E < 2 ^ disks C) × ((x : ℕ) → x < 2 ^ C .k → over (disks C) E (holdsBit C x) ≡ 0))
+
+-- Neither has a row too many.
+abbrev pub SpansIndependent : Type 0
+SpansIndependent = (C : Code) → Independent (rows C) × Independent (checks C)
+
+-- ---- fatal sets
+
+-- A set is fatal exactly where the codeword of some data word other than 0 lies inside it.
+abbrev pub FatalHoldsCodeword : Type 0
+FatalHoldsCodeword =
+    (C : Code) (S : ℕ) → T (fatal C S) ↔ ((x : ℕ) × (x < 2 ^ C .k) × (x ≢ 0) × T (codeword C x ⊆ S))
+
+-- That is where `within` leaves a row.
+abbrev pub FatalLeavesRow : Type 0
+FatalLeavesRow = (C : Code) (S : ℕ) → T (fatal C S) ↔ (within S (rows C) ≢ [])
+
+-- Duality: a set is fatal exactly where some disk of it has no equation among the survivors.
+abbrev pub Duality : Type 0
+Duality =
+    (C : Code) (S : ℕ)
+    → T (fatal C S)
+    ↔ ((d : ℕ) × (d < disks C) × T (has S d) × (((E : ℕ) × T (E ⊆ survivors C S) × T (equation C d E)) → ⊥))
+
+-- A disk is undetermined exactly where a codeword inside the set holds it: the undetermined disks are the union of those codewords.
+abbrev pub UndeterminedHeld : Type 0
+UndeterminedHeld =
+    (C : Code) (S d : ℕ) → d < disks C
+    → T (undetermined C S d) ↔ ((x : ℕ) × (x < 2 ^ C .k) × T (codeword C x ⊆ S) × T (has (codeword C x) d))
+
+-- A lost disk is undetermined exactly where it has no equation among the survivors.
+abbrev pub UndeterminedUntold : Type 0
+UndeterminedUntold =
+    (C : Code) (S d : ℕ) → d < disks C → T (has S d)
+    → T (undetermined C S d) ↔ (((E : ℕ) × T (E ⊆ survivors C S) × T (equation C d E)) → ⊥)
+
+-- ---- the list of minimal erasures
+
+-- Its members are exactly the minimal erasures.
+abbrev pub ErasuresExact : Type 0
+ErasuresExact = (C : Code) (S : ℕ) → T (member S (erasures C)) ↔ ((S < 2 ^ disks C) × T (minimalErasure C S))
+
+-- An earlier entry is smaller, or as large and of smaller data part. So each stands there once.
+abbrev pub ErasuresOrdered : Type 0
+ErasuresOrdered =
+    (C : Code) (i j : ℕ) → i < j → j < length (erasures C)
+    → let R = getD (erasures C) i 0 in
+    let S = getD (erasures C) j 0 in
+    (size R < size S) ⊎ ((size R ≡ size S) × (dataPart C R < dataPart C S))
+
+-- At most one for each data part.
+abbrev pub OnePerDataPart : Type 0
+OnePerDataPart =
+    (C : Code) (R S : ℕ) → T (minimalErasure C R) → T (minimalErasure C S) → dataPart C R ≡ dataPart C S → R ≡ S
+
+-- A set is fatal exactly where it contains an entry.
+abbrev pub FatalHoldsListed : Type 0
+FatalHoldsListed = (C : Code) (S : ℕ) → T (fatal C S) ↔ ((R : ℕ) × T (member R (erasures C)) × T (R ⊆ S))
+
+-- It equals the enumeration with one candidate for each data word, kept where one row is left inside its codeword.
+abbrev pub ErasuresEnumerated : Type 0
+ErasuresEnumerated = (C : Code) → erasures C ≡ erasuresByWord C
+
+-- ---- the list of equations
+
+-- Its members are exactly the equations of the disk with no smaller one inside.
+abbrev pub EquationsExact : Type 0
+EquationsExact = (C : Code) (d E : ℕ) → T (member E (equations C d)) ↔ ((E < 2 ^ disks C) × T (minimalEquation C d E))
+
+-- An earlier entry is smaller, or as large and of smaller set number. So each stands there once.
+abbrev pub EquationsOrdered : Type 0
+EquationsOrdered =
+    (C : Code) (d i j : ℕ) → i < j → j < length (equations C d)
+    → let E = getD (equations C d) i 0 in
+    let F = getD (equations C d) j 0 in
+    (size E < size F) ⊎ ((size E ≡ size F) × (E < F))
+
+-- Every equation of the disk contains an entry.
+abbrev pub EquationHoldsListed : Type 0
+EquationHoldsListed =
+    (C : Code) (d E : ℕ) → E < 2 ^ disks C → T (equation C d E) → (F : ℕ) × T (member F (equations C d)) × T (F ⊆ E)
+
+-- It equals the enumeration with one candidate for each set of parities, kept where its check word holds the disk and leaves one row.
+abbrev pub EquationsEnumerated : Type 0
+EquationsEnumerated = (C : Code) (d : ℕ) → d < disks C → equations C d ≡ equationsByParities C d
+
+-- A codeword of more than m + 1 disks leaves more than one row, and so does a check word of more than k + 1.
+abbrev pub MinimalSizes : Type 0
+MinimalSizes =
+    (C : Code) (w : ℕ)
+    → (InSpan (rows C) w → length (within w (rows C)) ≡ 1 → size w ≤ C .m + 1)
+    × (InSpan (checks C) w → length (within w (checks C)) ≡ 1 → size w ≤ C .k + 1)

@@ -13,10 +13,12 @@ use lib.Dec.{T}
 use lib.ListN.{length, length-map}
 use lib.Pow.{pow-pos}
 use Rattle.gf2.specs.Sets.{bit, has, size, _∩_, _⊕_, _∖_, _⊆_}
+use Rattle.gf2.specs.Span.{InSpan}
 use Rattle.gf2.specs.Within.{lowest, clear, within}
-use Rattle.gf2.proofs.Tests.{eqb-out}
+use Rattle.gf2.proofs.Tests.{eqb-in, eqb-out}
 use Rattle.gf2.proofs.Bits.{bit-low, bit-cases, bit-⊕, bit-∩, not-has}
-use Rattle.gf2.proofs.Subsets.{⊆-in, ⊆-out, ⊕-out, ∩-out, zero-⊆, ⊆-zero, ∖-in, ∖-out, ⊆-none, none-⊆, power-out, power-⊆, lowest-has}
+use Rattle.gf2.proofs.Subsets.{⊆-in, ⊆-out, ⊕-out, ∩-out, zero-⊆, ⊆-zero, ∖-in, ∖-out, less-⊆, ⊆-none, none-⊆, power-out, power-⊆, lowest-has}
+use Rattle.gf2.proofs.Spans.{first-in}
 use Rattle.gf2.proofs.Elimination.{clear-is, clear-out, dropped-has, by-rows, within-nil, within-kept, within-dropped}
 
 -- ---- sizes
@@ -73,6 +75,11 @@ size-less S d m =
     let e : S ∩ 2 ^ d ≡ 2 ^ d = and-comm S (2 ^ d) ∙ eqb-out (2 ^ d ∩ S) (2 ^ d) (power-⊆ d S m) in
     ap (λ (x : ℕ). size (S ∖ 2 ^ d) + x) (sym (size-power d) ∙ ap size (sym e)) ∙ size-split S (2 ^ d)
 
+-- all disks below n
+all-⊆ : (n S : ℕ) → S < 2 ^ n → T (S ⊆ 2 ^ n - 1)
+unfolding _⊆_ _∩_
+all-⊆ n S l = eqb-in (and-mask S n ∙ mod-eq-of-lt l)
+
 -- the disks below n that are not in S
 pub size-rest : (n S : ℕ) → S < 2 ^ n → size ((2 ^ n - 1) ∖ S) + size S ≡ n
 unfolding size _∩_
@@ -114,7 +121,12 @@ within-leaves S =
     let h = ih (U ∖ 2 ^ d) (cleared-outside S U b d (p .0) (o .0) bs (o .1)) in
     rw (within-dropped S b bs f) (omega (arith, h, size-less U d u, length-map bs (clear d b))))
 
--- a set inside which one row is left holds at most n + 1 disks less one for each row
-pub one-left-size : (n w : ℕ) (bs : List ℕ) → w < 2 ^ n → Outside w ((2 ^ n - 1) ∖ w) bs → length (within w bs) ≡ 1
+-- rows of disks below n, outside S
+below-outside : (n S : ℕ) (bs : List ℕ) → ((v : ℕ) → InSpan bs v → v < 2 ^ n) → Outside S ((2 ^ n - 1) ∖ S) bs
+below-outside n S [] h = tt
+below-outside n S (b ∷ bs) h = (less-⊆ b (2 ^ n - 1) S (all-⊆ n b (h b (first-in b bs))), below-outside n S bs (λ v s. h v (inl s)))
+
+-- A word inside which one row is left, of rows of disks below n, holds at most n + 1 disks less one for each row.
+pub one-left-size : (n : ℕ) (bs : List ℕ) → ((v : ℕ) → InSpan bs v → v < 2 ^ n) → (w : ℕ) → InSpan bs w → length (within w bs) ≡ 1
     → length bs + size w ≤ n + 1
-one-left-size n w bs l o e = omega (arith, within-leaves w bs ((2 ^ n - 1) ∖ w) o, size-rest n w l)
+one-left-size n bs h w s e = omega (arith, within-leaves w bs ((2 ^ n - 1) ∖ w) (below-outside n w bs h), size-rest n w (h w s))

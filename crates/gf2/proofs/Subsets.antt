@@ -40,6 +40,9 @@ pub ⊕-out : (a b i : ℕ) → T (has (a ⊕ b) i) → T (has a i) ⊎ T (has b
     go (inl p) (inr q) = inr (has-in b i q)
     go (inr p) q = inl (has-in a i p)
 
+pub ⊕-left : (a b i : ℕ) → T (has a i) → (T (has b i) → ⊥) → T (has (a ⊕ b) i)
+⊕-left a b i m f = has-in (a ⊕ b) i (bit-⊕ a b i ∙ rw (has-out a i m, has-not b i f))
+
 pub ∩-out : (R S i : ℕ) → T (has (R ∩ S) i) → T (has R i) × T (has S i)
 ∩-out R S i m = go (bit-cases R i) (bit-cases S i)
   where
@@ -154,12 +157,13 @@ pub less-⊆ : (Q R S : ℕ) → T (Q ⊆ R) → T (Q ∖ S ⊆ R ∖ S)
 less-⊆ Q R S t = ⊆-in (Q ∖ S) (R ∖ S) (λ i m. let p = ∖-out Q S i m in ∖-in R S i (⊆-out Q R t i (p .0)) (p .1))
 
 pub plus-⊆ : (R S d : ℕ) → (T (has S d) → ⊥) → T (R ⊆ S) → T (R ⊕ 2 ^ d ⊆ S ⊕ 2 ^ d)
-plus-⊆ R S d f t = ⊆-in (R ⊕ 2 ^ d) (S ⊕ 2 ^ d) (λ i m. ⊎-elim (λ r. old i (⊆-out R S t i r)) (λ p. subst (λ (x : ℕ). T (has (S ⊕ 2 ^ d) x)) (sym (power-out d i p)) (plus-has S d f)) (⊕-out R (2 ^ d) i m))
+plus-⊆ R S d f t =
+    ⊆-in (R ⊕ 2 ^ d) (S ⊕ 2 ^ d)
+    (λ i m. ⊎-elim (λ r. old i (⊆-out R S t i r)) (λ p. subst (λ (x : ℕ). T (has (S ⊕ 2 ^ d) x)) (sym (power-out d i p)) (plus-has S d f))
+    (⊕-out R (2 ^ d) i m))
   where
     old : (i : ℕ) → T (has S i) → T (has (S ⊕ 2 ^ d) i)
-    old i m =
-        has-in (S ⊕ 2 ^ d) i
-        (bit-⊕ S (2 ^ d) i ∙ rw (has-out S i m, bit-pow-other d i (λ e. f (subst (λ (x : ℕ). T (has S x)) e m))))
+    old i m = ⊕-left S (2 ^ d) i m (λ p. f (subst (λ (x : ℕ). T (has S x)) (power-out d i p) m))
 
 -- a set inside another has no larger number
 pub ⊆-le : (R S : ℕ) → T (R ⊆ S) → R ≤ S

@@ -1,11 +1,12 @@
 -- The proofs of specs/Theorems.antt.
 -- Assumes nothing.
-use Rattle.gf2.specs.Theorems.{Subset, Extensional, SelectLinear, SpanSelected, WithinSpans, WithinIndependent, MinimalIsOneRow}
+use Rattle.gf2.specs.Theorems.{Subset, Extensional, SelectLinear, SpanSelected, WithinSpans, WithinIndependent, MinimalIsOneRow, MinimalSize}
 use Rattle.gf2.proofs.Subsets.{⊆-in, ⊆-out, same-disks}
 use Rattle.gf2.proofs.Spans.{at}
 use Rattle.gf2.proofs.Sums.{select-⊕, select-in, in-select}
 use Rattle.gf2.proofs.Elimination as elimination
 use Rattle.gf2.proofs.OneRow.{one-row}
+use Rattle.gf2.proofs.Sizes.{one-left-size}
 
 pub subset : Subset
 subset R S = (⊆-out R S, ⊆-in R S)
@@ -27,3 +28,6 @@ within-independent = elimination.within-indep
 
 pub minimal-is-one-row : MinimalIsOneRow
 minimal-is-one-row = one-row
+
+pub minimal-size : MinimalSize
+minimal-size = one-left-size

@@ -3,10 +3,10 @@
 use mathlib.Core.Path.{_≡_}
 use mathlib.Core.Logic.{_↔_}
 use mathlib.Core.List.{List}
-use Prim.Native.Nat.{ℕ, _^_, _<_}
+use Prim.Native.Nat.{ℕ, _+_, _^_, _≤_, _<_}
 use lib.Dec.{T}
 use lib.ListN.{length}
-use Rattle.gf2.specs.Sets.{has, _⊕_, _⊆_}
+use Rattle.gf2.specs.Sets.{has, size, _⊕_, _⊆_}
 use Rattle.gf2.specs.Span.{InSpan, Independent, select, Minimal}
 use Rattle.gf2.specs.Within.{within}
 
@@ -37,3 +37,9 @@ WithinIndependent = (S : ℕ) (bs : List ℕ) → Independent bs → Independent
 -- A word of the span of independent rows is minimal exactly where one row is left inside it.
 abbrev pub MinimalIsOneRow : Type 0
 MinimalIsOneRow = (bs : List ℕ) (w : ℕ) → Independent bs → InSpan bs w → Minimal bs w ↔ (length (within w bs) ≡ 1)
+
+-- Where the rows hold disks below n, a word inside which one row is left holds at most n + 1 disks less one for each row.
+abbrev pub MinimalSize : Type 0
+MinimalSize =
+    (n : ℕ) (bs : List ℕ) → ((v : ℕ) → InSpan bs v → v < 2 ^ n) → (w : ℕ) → InSpan bs w → length (within w bs) ≡ 1
+    → length bs + size w ≤ n + 1
