@@ -1,15 +1,16 @@
 -- Cards: the tests of a code, its columns in bytes, and what is known of an accepted card.
 -- Assumes nothing.
 use mathlib.Core.Path.{_≡_, refl, sym, ap, ap₂, _∙_, subst}
-use mathlib.Core.Bool.{Bool, true, false, not, _&&_, false≢true}
+use mathlib.Core.Bool.{Bool, true, false, not, _&&_}
 use mathlib.Core.List.{List, [], _∷_, _++_}
 use Prim.Native.Nat.{ℕ, zero, suc, _+_, _-_, _*_, _/_, _%_, _^_, _≤_, _<_}
 use native.Mathlib.Nat.{not-suc-le-zero}
 use native.Mathlib.Omega.{arith}
-use borrow.Author.Tests.{ltb-true, ltb-false, leb-true, eqb-true, not-false, le-ltb, eq-eqb}
+use borrow.Author.Tests.{ltb-false, eqb-true, not-false, le-ltb, eq-eqb}
 use lib.Dec.{leb, ltb, eqb}
 use lib.ListN.{length, getD, take, drop}
 use Rattle.gf2.specs.If.{if_then_else_}
+use Rattle.gf2.proofs.Tests.{true-T, and-out, ltb-out, leb-out}
 use Rattle.flat.specs.Lists.{Bytes, tabulate, each, bytes, field}
 use Rattle.flat.specs.Cards.{Code, code, countOk, columnOk, firstBad, cardLength, cardBytes, columnsIn, codeOf}
 use Rattle.flat.specs.Faults.{Report, accepted, refused, codeReport, cardReport}
@@ -18,17 +19,13 @@ use Rattle.flat.proofs.Reports.{passed}
 
 -- ---- the tests
 
-and-out : (a b : Bool) → (a && b) ≡ true → (a ≡ true) × (b ≡ true)
-and-out true b e = (refl, e)
-and-out false b e = (e, absurd (false≢true e))
-
 pub count-in : (n : ℕ) → countOk n ≡ true → (1 ≤ n) × (n ≤ 16)
 unfolding countOk
-count-in n e = let p = and-out (leb 1 n) (leb n 16) e in (leb-true 1 n (p .0), leb-true n 16 (p .1))
+count-in n e = let p = and-out (leb 1 n) (leb n 16) (true-T e) in (leb-out 1 n (p .0), leb-out n 16 (p .1))
 
 pub column-in : (k c : ℕ) → columnOk k c ≡ true → (1 ≤ c) × (c < 2 ^ k)
 unfolding columnOk
-column-in k c e = let p = and-out (leb 1 c) (ltb c (2 ^ k)) e in (leb-true 1 c (p .0), ltb-true c (2 ^ k) (p .1))
+column-in k c e = let p = and-out (leb 1 c) (ltb c (2 ^ k)) (true-T e) in (leb-out 1 c (p .0), ltb-out c (2 ^ k) (p .1))
 
 pub first-le : (k : ℕ) (cs : List ℕ) → firstBad k cs ≤ length cs
 unfolding firstBad
