@@ -1,0 +1,2 @@
+pub mod Systematic
+pub mod Listed
