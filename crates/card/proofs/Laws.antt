@@ -23,10 +23,6 @@ use Rattle.card.specs.Reports.{faultReport}
 
 -- ---- what the code computes
 
--- the column limit, by a shift
-pub shifted : (k : ℕ) → k ≤ 16 → (1 * 2 ^ k) % 2 ^ 32 ≡ 2 ^ k
-shifted k h = shl-exact 1 k 32 (lit< tt) (omega arith) ∙ one-mul (2 ^ k)
-
 -- the bytes from n on, as the code lends them
 pub rest : (n : ℕ) (l : List ℕ) → take (length l - n) (drop n l) ≡ drop n l
 rest n l = take-all (length l - n) (drop n l) (omega (arith, length-drop n l))

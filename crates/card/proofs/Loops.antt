@@ -2,16 +2,16 @@
 -- Assumes nothing.
 use mathlib.Core.Path.{_≡_, refl, sym, ap, _∙_}
 use mathlib.Core.Bool.{true, false}
-use mathlib.Core.List.{List, [], _∷_, _++_}
+use mathlib.Core.List.{List, [], _∷_}
 use Prim.Native.Nat.{ℕ, zero, suc, _+_, _-_, _*_, _/_, _%_, _≤_, _<_}
 use native.Mathlib.Numerals.{add-one}
 use native.Mathlib.Omega.{arith}
-use lib.ListN.{length, getD, take, drop, set, replicate, length-append, length-set}
-use lib.Seq.{drop-cons, drop-length, take-suc, take-suc-set, take-all, set-at, append-snoc}
+use lib.ListN.{length, getD, take, drop, set, replicate, length-set}
+use lib.Seq.{drop-cons, drop-length, take-suc, take-suc-set, take-all}
 use Rattle.gf2.specs.If.{if_then_else_}
-use Rattle.flat.specs.Lists.{tabulate, each, bytes, padded, field}
+use Rattle.flat.specs.Lists.{each, bytes, padded, field}
 use Rattle.flat.specs.Cards.{code, columnOk, firstBad, columnsIn, cardBytes}
-use Rattle.flat.proofs.Cards.{length-columns}
+use Rattle.flat.proofs.Lists.{fill-none, fill-more}
 
 -- ---- the search for the first bad column
 
@@ -48,30 +48,14 @@ passed-all k cs j p h =
 
 -- ---- the columns, filled in place by place
 
-tabulate-more : (n : ℕ) (f : ℕ → ℕ) → tabulate (suc n) f ≡ tabulate n f ++ (f n ∷ [])
-unfolding tabulate
-tabulate-more zero f = refl
-tabulate-more (suc n) f = ap (λ (l : List ℕ). f 0 ∷ l) (tabulate-more n (λ i. f (suc i)))
-
-columns-more : (j : ℕ) (bs : List ℕ) → columnsIn (j + 1) bs ≡ columnsIn j bs ++ (field (2 * j) 2 bs ∷ [])
-unfolding columnsIn
-columns-more j bs = rw add-one (tabulate-more j (λ i. field (2 * i) 2 bs))
-
-padded-more : (n j v : ℕ) (xs : List ℕ) → length xs ≡ j → j < n → set (padded n xs) j v ≡ padded n (xs ++ (v ∷ []))
-unfolding padded
-padded-more n j v xs e h =
-    let before : n - length xs ≡ suc (n - suc j) = omega arith in
-    let after : n - length (xs ++ (v ∷ [])) ≡ n - suc j = omega (arith, length-append xs (v ∷ [])) in
-    rw (before, after, append-snoc) (set-at xs 0 (replicate (n - suc j) 0) v j e)
-
 pub filled-none : (bs : List ℕ) → replicate 16 0 ≡ padded 16 (columnsIn 0 bs)
-unfolding padded columnsIn tabulate
-filled-none bs = refl
+unfolding columnsIn
+filled-none bs = fill-none 16 (λ i. field (2 * i) 2 bs)
 
 pub filled-more : (j v : ℕ) (bs out : List ℕ) → j < 16 → out ≡ padded 16 (columnsIn j bs) → v ≡ field (2 * j) 2 bs
     → set out j v ≡ padded 16 (columnsIn (j + 1) bs)
-filled-more j v bs out h o e =
-    rw (o, e) (padded-more 16 j (field (2 * j) 2 bs) (columnsIn j bs) (length-columns j bs) h) ∙ ap (padded 16) (sym (columns-more j bs))
+unfolding columnsIn
+filled-more j v bs out h o e = fill-more 16 j v (λ i. field (2 * i) 2 bs) out h o e
 
 -- ---- a list that is written in order
 

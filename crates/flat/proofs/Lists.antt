@@ -5,8 +5,9 @@ use mathlib.Core.List.{List, [], _∷_, _++_}
 use Prim.Native.Nat.{ℕ, zero, suc, _+_, _-_, _*_, _≤_, _<_}
 use native.Mathlib.Nat.{not-suc-le-zero}
 use native.Mathlib.Omega.{arith}
-use lib.ListN.{length, getD, take, drop, replicate, length-append, length-replicate}
-use lib.Seq.{take-at}
+use lib.ListN.{length, getD, take, drop, set, replicate, length-append, length-replicate}
+use lib.Seq.{take-at, set-at, append-snoc}
+use native.Mathlib.Numerals.{add-one}
 use Rattle.flat.specs.Lists.{tabulate, padded, number, field}
 
 -- ---- tables
@@ -37,6 +38,28 @@ length-padded n xs h = length-append xs (replicate (n - length xs) 0) ∙ ap (λ
 pub take-padded : (n m : ℕ) (xs : List ℕ) → length xs ≡ m → take m (padded n xs) ≡ xs
 unfolding padded
 take-padded n m xs e = take-at xs (replicate (n - length xs) 0) m e
+
+-- an array of zeros that is filled from the front with a table
+tabulate-more : (n : ℕ) (f : ℕ → ℕ) → tabulate (suc n) f ≡ tabulate n f ++ (f n ∷ [])
+unfolding tabulate
+tabulate-more zero f = refl
+tabulate-more (suc n) f = ap (λ (l : List ℕ). f 0 ∷ l) (tabulate-more n (λ i. f (suc i)))
+
+padded-more : (n j v : ℕ) (xs : List ℕ) → length xs ≡ j → j < n → set (padded n xs) j v ≡ padded n (xs ++ (v ∷ []))
+unfolding padded
+padded-more n j v xs e h =
+    let before : n - length xs ≡ suc (n - suc j) = omega arith in
+    let after : n - length (xs ++ (v ∷ [])) ≡ n - suc j = omega (arith, length-append xs (v ∷ [])) in
+    rw (before, after, append-snoc) (set-at xs 0 (replicate (n - suc j) 0) v j e)
+
+pub fill-none : (n : ℕ) (f : ℕ → ℕ) → replicate n 0 ≡ padded n (tabulate 0 f)
+unfolding padded tabulate
+fill-none n f = ap (λ (i : ℕ). replicate i 0) (let e : n ≡ n - 0 = omega arith in e)
+
+pub fill-more : (n j v : ℕ) (f : ℕ → ℕ) (out : List ℕ) → j < n → out ≡ padded n (tabulate j f) → v ≡ f j
+    → set out j v ≡ padded n (tabulate (j + 1) f)
+fill-more n j v f out h o e =
+    rw (o, e, add-one) (padded-more n j (f j) (tabulate j f) (length-tabulate j f) h ∙ ap (padded n) (sym (tabulate-more j f)))
 
 -- ---- numbers in bytes
 

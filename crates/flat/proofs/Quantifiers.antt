@@ -80,7 +80,7 @@ set-lt (suc n) p = rw pow-suc (go (p n) (set-lt n p))
     go false l = omega (arith, pow-pos n)
 
 -- a power of two added to a smaller number is XORed into it
-add-power : (n s : ℕ) → s < 2 ^ n → s + 2 ^ n ≡ s ⊕ 2 ^ n
+pub add-power : (n s : ℕ) → s < 2 ^ n → s + 2 ^ n ≡ s ⊕ 2 ^ n
 unfolding _⊕_
 add-power n s l =
     sym (xor-disjoint s (2 ^ n) (and-comm s (2 ^ n) ∙ (let e : 2 ^ n ≡ 1 * 2 ^ n = omega arith in rw e (and-shifted 1 n s l))))

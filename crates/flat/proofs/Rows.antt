@@ -65,7 +65,7 @@ module _ (C : Code) where
   unfolding row
   row-bit i d l = bit-set (disks C) (λ e. if ltb e (C .k) then eqb e i else has (column C (e - C .k)) i) d l
 
-  row-lt : (i : ℕ) → row C i < 2 ^ disks C
+  pub row-lt : (i : ℕ) → row C i < 2 ^ disks C
   unfolding row
   row-lt i = set-lt (disks C) (λ e. if ltb e (C .k) then eqb e i else has (column C (e - C .k)) i)
 
@@ -99,13 +99,16 @@ module _ (C : Code) where
   )
 
   -- row i is the only one with data disk i
+  pub row-data : (j i : ℕ) → i < C .k → bit (row C j) i ≡ (if eqb i j then 1 else 0)
+  unfolding disks
+  row-data j i l = row-bit j i (omega arith) ∙ rw (lt-ltb i (C .k) l)
+
   pub rows-indep : Independent (rows C)
-  unfolding rows disks
+  unfolding rows
   rows-indep =
       pivots-indep (C .k) (row C) (λ i. i)
-      (λ i l. row-bit i i (omega arith) ∙ rw (lt-ltb i (C .k) l, eq-eqb i i refl))
-      (λ i j l m. row-bit j i (omega arith)
-      ∙ (let n : i < C .k = omega arith in rw (lt-ltb i (C .k) n, ne-eqb i j (λ e. lt-irrefl i (subst (λ (y : ℕ). i < y) (sym e) l)))))
+      (λ i l. row-data i i l ∙ rw (eq-eqb i i refl))
+      (λ i j l m. row-data j i (omega arith) ∙ rw (ne-eqb i j (λ e. lt-irrefl i (subst (λ (y : ℕ). i < y) (sym e) l))))
 
 -- ---- the checks
 
@@ -118,11 +121,12 @@ module _ (C : Code) where
   unfolding check inCheck
   check-has j d l = has-set (disks C) (inCheck j) d l
 
-  check-lt : (j : ℕ) → check C j < 2 ^ disks C
+  pub check-lt : (j : ℕ) → check C j < 2 ^ disks C
   unfolding check inCheck
   check-lt j = set-lt (disks C) (inCheck j)
 
-  check-parity : (j i : ℕ) → i < C .m → bit (check C j) (C .k + i) ≡ (if eqb i j then 1 else 0)
+  -- check j is the only one with parity disk k + j
+  pub check-parity : (j i : ℕ) → i < C .m → bit (check C j) (C .k + i) ≡ (if eqb i j then 1 else 0)
   unfolding check inCheck disks
   check-parity j i l =
       bit-set (disks C) (inCheck j) (C .k + i) (omega arith)
@@ -135,7 +139,6 @@ module _ (C : Code) where
   unfolding checks
   checks-length = length-tabulate (C .m) (check C)
 
-  -- check j is the only one with parity disk k + j
   pub checks-indep : Independent (checks C)
   unfolding checks
   checks-indep =

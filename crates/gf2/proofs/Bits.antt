@@ -4,15 +4,15 @@ use mathlib.Core.Path.{_≡_, refl, sym, ap, _∙_}
 use mathlib.Core.Bool.{Bool, true, false}
 use mathlib.Core.Logic.{_⊎_, inl, inr, _≢_}
 use Prim.Native.Nat.{ℕ, zero, suc, _+_, _-_, _*_, _/_, _%_, _^_, _≤_, _<_}
-use native.Mathlib.Nat.{mod-lt, zero-lt-suc, pow-suc, mul-comm, div-div-eq-div-mul, div-one, div-eq-of-lt, div-lt-iff-lt-mul, zero-div, lt-of-lt-of-le, mul-div-cancel, mul-mod-left}
+use native.Mathlib.Nat.{mod-lt, zero-lt-suc, pow-suc, mul-comm, div-div-eq-div-mul, div-one, div-eq-of-lt, div-lt-iff-lt-mul, zero-div, lt-of-lt-of-le, mul-div-cancel, mul-mod-left, one-mul}
 use native.Mathlib.Omega.{arith}
 use lib.Arith.{lt-one}
 use lib.Bits.{bitAnd, bitXor, and-shr, and-mod, xor-shr, xor-mod, and-mask}
-use lib.Dec.{T, eqb}
-use lib.Pow.{pow-mono, shr-shr, field, mod-mod-pow}
+use lib.Dec.{T, eqb, lit<}
+use lib.Pow.{pow-mono, shl-exact, shr-shr, field, mod-mod-pow}
 use Rattle.gf2.specs.If.{if_then_else_}
 use Rattle.gf2.specs.Sets.{bit, has, _∩_, _⊕_}
-use Rattle.gf2.proofs.Tests.{eqb-in, eqb-out, T-true, T-false}
+use Rattle.gf2.proofs.Tests.{dec, eqb-in, eqb-out, T-true, T-false}
 
 two-pos : zero < 2
 two-pos = zero-lt-suc 1
@@ -89,6 +89,13 @@ bit-pow-other (suc j) zero f =
     bit-low (2 ^ suc j) ∙ ap (λ (x : ℕ). x % 2) (pow-suc 2 j) ∙ mul-mod-left (2 ^ j) 2
 bit-pow-other (suc j) (suc i) f =
     bit-suc (2 ^ suc j) i ∙ ap (λ (x : ℕ). bit x i) (pow-half j) ∙ bit-pow-other j i (λ e. f (ap suc e))
+
+pub bit-pow : (j i : ℕ) → bit (2 ^ j) i ≡ (if eqb i j then 1 else 0)
+bit-pow j i = go (dec (eqb i j))
+  where
+    go : T (eqb i j) ⊎ (T (eqb i j) → ⊥) → bit (2 ^ j) i ≡ (if eqb i j then 1 else 0)
+    go (inl t) = rw (T-true {b = eqb i j} t) (ap (bit (2 ^ j)) (eqb-out i j t) ∙ bit-pow-same j)
+    go (inr f) = rw (T-false {b = eqb i j} f) (bit-pow-other j i (λ e. f (eqb-in e)))
 
 -- ---- the operations on sets, bit by bit
 
@@ -167,6 +174,10 @@ has-zero S i e = T-false (not-has S i e)
 pub has-if : (S i : ℕ) (b : Bool) → bit S i ≡ (if b then 1 else 0) → has S i ≡ b
 has-if S i true e = has-one S i e
 has-if S i false e = has-zero S i e
+
+-- the power of two that the code's shift of 1 gives
+pub one-shifted : (k : ℕ) → k < 32 → (1 * 2 ^ k) % 2 ^ 32 ≡ 2 ^ k
+one-shifted k h = shl-exact 1 k 32 (lit< tt) (omega arith) ∙ one-mul (2 ^ k)
 
 -- the test of the code
 pub bit-test : (S i : ℕ) → eqb (bitAnd (S / 2 ^ i) 1) 1 ≡ has S i

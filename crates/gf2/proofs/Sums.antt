@@ -13,8 +13,8 @@ use lib.Pow.{pow-pos}
 use Rattle.gf2.specs.If.{if_then_else_}
 use Rattle.gf2.specs.Sets.{bit, has, _⊕_, _∖_, over}
 use Rattle.gf2.specs.Span.{InSpan, select}
-use Rattle.gf2.proofs.Tests.{dec, T-true, T-false, T-ext, eqb-in, eqb-out, below-suc}
-use Rattle.gf2.proofs.Bits.{bit-cases, bit-low, bit-suc, bit-of-zero, bit-shift, bit-pow-same, bit-pow-other, bit-⊕, bit-⊕-bits, has-in, not-has, has-one, has-zero}
+use Rattle.gf2.proofs.Tests.{dec, T-true, T-false, eqb-in, eqb-out, eqb-sym, below-suc}
+use Rattle.gf2.proofs.Bits.{bit-cases, bit-low, bit-suc, bit-of-zero, bit-shift, bit-pow, bit-⊕, bit-⊕-bits, not-has, has-one, has-zero, has-if}
 use Rattle.gf2.proofs.Xor.{⊕-assoc, ⊕-self, zero-⊕, ⊕-zero, ⊕-back, ⊕-four, ⊕-lt}
 use Rattle.gf2.proofs.Subsets.{∖-in, ∖-out}
 use Rattle.gf2.proofs.Spans.{at}
@@ -178,20 +178,11 @@ over-comm (suc n) c x = ap₂ (λ (a b : ℕ). a ⊕ b) (over-comm n c x) (go (b
 -- a sum with one term, written in two ways
 pub over-power : (n S d : ℕ) → d < n → over n S (bit (2 ^ d)) ≡ bit S d
 over-power n S d l =
-    over-comm n S (2 ^ d)
-    ∙ over-only n (2 ^ d) d (bit S) l (λ i m. T-ext (λ t. alone i t (dec (eqb i d))) (λ t. has-in (2 ^ d) i (ap (bit (2 ^ d)) (eqb-out i d t) ∙ bit-pow-same d)))
-  where
-    alone : (i : ℕ) → T (has (2 ^ d) i) → T (eqb i d) ⊎ (T (eqb i d) → ⊥) → T (eqb i d)
-    alone i t (inl u) = u
-    alone i t (inr f) = absurd (not-has (2 ^ d) i (bit-pow-other d i (λ e. f (eqb-in e))) t)
+    over-comm n S (2 ^ d) ∙ over-only n (2 ^ d) d (bit S) l (λ i m. has-if (2 ^ d) i (eqb i d) (bit-pow d i))
 
 pub over-one : (n S d : ℕ) → d < n → over n S (λ i. if eqb d i then 1 else 0) ≡ bit S d
 over-one n S d l =
-    over-cong n S (λ i. if eqb d i then 1 else 0) (bit (2 ^ d)) (λ i m t. power i (dec (eqb d i))) ∙ over-power n S d l
-  where
-    power : (i : ℕ) → T (eqb d i) ⊎ (T (eqb d i) → ⊥) → (if eqb d i then 1 else 0) ≡ bit (2 ^ d) i
-    power i (inl t) = rw (T-true {b = eqb d i} t) (sym (bit-pow-same d) ∙ ap (bit (2 ^ d)) (eqb-out d i t))
-    power i (inr f) = rw (T-false {b = eqb d i} f) (sym (bit-pow-other d i (λ e. f (eqb-in (sym e)))))
+    over-cong n S (λ i. if eqb d i then 1 else 0) (bit (2 ^ d)) (λ i m t. rw (eqb-sym d i) (sym (bit-pow d i))) ∙ over-power n S d l
 
 -- ---- select
 

@@ -67,6 +67,9 @@ eqb-in {a} e = subst (λ (x : ℕ). T (eqb a x)) e (eqb-refl a)
 pub eqb-out : (a b : ℕ) → T (eqb a b) → a ≡ b
 eqb-out = eqb→eq
 
+pub eqb-sym : (a b : ℕ) → eqb a b ≡ eqb b a
+eqb-sym a b = T-ext (λ t. eqb-in (sym (eqb-out a b t))) (λ t. eqb-in (sym (eqb-out b a t)))
+
 pub neqb-in : {a b : ℕ} → a ≢ b → T (not (eqb a b))
 neqb-in {a} {b} f = not-in (eqb a b) (λ t. f (eqb-out a b t))
 

@@ -1,9 +1,10 @@
 -- `card::column_ok` meets its contract.
 -- Assumes nothing.
+use native.Mathlib.Omega.{arith}
 use borrow.Author.Needs.{needs}
 use borrow.Author.Tests.{lt-leb, le-leb}
 use Rattle.flat.specs.Cards.{columnOk}
-use Rattle.card.proofs.Laws.{shifted}
+use Rattle.gf2.proofs.Bits.{one-shifted}
 use Rattle.card.proofs.column_ok.Statement.{statement}
 use Rattle.card.proofs.column_ok.Tie as tie
 
@@ -19,7 +20,7 @@ shl-result c = search needs
 
 returns-2 : tie.Need-returns-2
 unfolding columnOk
-returns-2 c = simp (le-leb _ _ (c .if1 .left), shifted (c .before .args .k) (c .before .pre))
+returns-2 c = simp (le-leb _ _ (c .if1 .left), one-shifted (c .before .args .k) (omega arith))
 
 pub column-ok-spec : {M : Type 1} → statement M
 column-ok-spec = tie.close (tie.spec returns cast-result shl-result returns-2)
