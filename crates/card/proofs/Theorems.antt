@@ -1,7 +1,8 @@
 -- A report tells the answer that gave it: each answer is computed back from its report.
 -- Assumes nothing.
 use mathlib.Core.Path.{_≡_, refl, sym, ap, _∙_}
-use lib.Dec.{eqb}
+use mathlib.Core.Bool.{_&&_}
+use lib.Dec.{eqb, leb}
 use lib.ListN.{getD}
 use Rattle.gf2.specs.If.{if_then_else_}
 use Rattle.flat.specs.Faults.{Report}
@@ -14,7 +15,7 @@ use Rattle.card.specs.declared.CardWritten.the-variants.{Done, Refused, 
 use Rattle.card.specs.Reports.{faultReport, checkReport, writtenReport}
 use Rattle.card.specs.Theorems.{FaultInjective, CheckInjective, WrittenInjective}
 
--- the answers that reports come from
+-- the fault that a report comes from
 abbrev faultOf : Report → CardFault
 faultOf r =
     if eqb (r .number) 1 then Short else
@@ -23,41 +24,36 @@ faultOf r =
     if eqb (r .number) 4 then Length else
     Column (getD (r .values) 0 0)
 
+-- an answer that carries a card's fault, where the number is one of a card's, else another
+module _ {A : Type 0} where
+  abbrev pub carried : Report → (CardFault → A) → A → A
+  carried r answer other = if leb 1 (r .number) && leb (r .number) 5 then answer (faultOf r) else other
+
+  pub carried-back : (f : CardFault) (answer : CardFault → A) (other : A) → carried (faultReport f) answer other ≡ answer f
+  carried-back Short answer other = refl
+  carried-back DataCount answer other = refl
+  carried-back ParityCount answer other = refl
+  carried-back Length answer other = refl
+  carried-back (Column j) answer other = refl
+
 abbrev checkOf : Report → CardCheck
-checkOf r = if eqb (r .number) 0 then Good (getD (r .values) 0 0) (getD (r .values) 1 0) else Bad (faultOf r)
+checkOf r = carried r Bad (Good (getD (r .values) 0 0) (getD (r .values) 1 0))
 
 abbrev writtenOf : Report → CardWritten
-writtenOf r =
-    if eqb (r .number) 0 then Done else
-    if eqb (r .number) 7 then Buffer else
-    Refused (faultOf r)
-
-fault-back : (f : CardFault) → faultOf (faultReport f) ≡ f
-fault-back Short = refl
-fault-back DataCount = refl
-fault-back ParityCount = refl
-fault-back Length = refl
-fault-back (Column j) = refl
+writtenOf r = carried r Refused (if eqb (r .number) 0 then Done else Buffer)
 
 check-back : (r : CardCheck) → checkOf (checkReport r) ≡ r
 check-back (Good k m) = refl
-check-back (Bad Short) = refl
-check-back (Bad DataCount) = refl
-check-back (Bad ParityCount) = refl
-check-back (Bad Length) = refl
-check-back (Bad (Column j)) = refl
+check-back (Bad f) = carried-back f Bad _
 
 written-back : (r : CardWritten) → writtenOf (writtenReport r) ≡ r
 written-back Done = refl
-written-back (Refused Short) = refl
-written-back (Refused DataCount) = refl
-written-back (Refused ParityCount) = refl
-written-back (Refused Length) = refl
-written-back (Refused (Column j)) = refl
+written-back (Refused f) = carried-back f Refused _
 written-back Buffer = refl
 
 pub fault-injective : FaultInjective
-fault-injective a b e = sym (fault-back a) ∙ ap faultOf e ∙ fault-back b
+fault-injective a b e =
+    sym (carried-back a (λ f. f) Short) ∙ ap (λ (r : Report). carried r (λ f. f) Short) e ∙ carried-back b (λ f. f) Short
 
 pub check-injective : CheckInjective
 check-injective a b e = sym (check-back a) ∙ ap checkOf e ∙ check-back b

@@ -5,7 +5,8 @@
 ghost use mathlib.Core.Path.{_≡_};
 ghost use mathlib.Core.List.{map};
 ghost use mathlib.Core.Logic.{_≢_};
-ghost use Prim.Native.Nat.{_≤_, _<_};
+ghost use Prim.Native.Nat.{_^_, _≤_, _<_};
+ghost use lib.Dec.{ltb};
 ghost use lib.ListN.{take};
 ghost use Rattle.gf2.specs.If.{if_then_else_};
 ghost use Rattle.gf2.specs.Sets.{has, size, _⊆_, _∖_};
@@ -31,6 +32,17 @@ pub fn size(set: u32) -> u32
     ensures { λ r. ⌜ r ≡ size set ⌝ }
 {
     u32::count_ones(set)
+}
+
+// Whether the set has no disk at n or above. At n = 32 every set is so.
+pub fn below(set: u32, n: u32) -> bool
+    requires { ⌜ n ≤ 32 ⌝ }
+    ensures { λ r. ⌜ r ≡ ltb set (2 ^ n) ⌝ }
+{
+    if n == 32 {
+        return true;
+    }
+    set < 1u32 << n
 }
 
 // Whether every disk of r is in s.
