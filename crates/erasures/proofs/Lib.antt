@@ -1,2 +1,5 @@
 pub mod Laws
+pub mod Enumerated
+pub mod Answered
+pub mod Comparing
 pub mod Theorems

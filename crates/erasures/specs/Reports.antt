@@ -4,11 +4,27 @@ use mathlib.Core.List.{[], _∷_}
 use Rattle.flat.specs.Faults.{Report, accepted, refused}
 use Rattle.card.specs.Reports.{faultReport}
 use Rattle.erasures.specs.declared.SetVerdict.{SetVerdict}
-use Rattle.erasures.specs.declared.SetVerdict.the-variants.{Fatal, Recoverable, Card, OutsideSet}
+use Rattle.erasures.specs.declared.SetVerdict.the-variants as verdict
+use Rattle.erasures.specs.declared.Listed.{Listed}
+use Rattle.erasures.specs.declared.Listed.the-variants as listed
+use Rattle.erasures.specs.declared.compare.Likeness.{Likeness}
+use Rattle.erasures.specs.declared.compare.Likeness.the-variants as likeness
 
 -- the verdict call
 abbrev pub verdictReport : SetVerdict → Report
-verdictReport Fatal = accepted (1 ∷ [])
-verdictReport Recoverable = accepted (0 ∷ [])
-verdictReport (Card f) = faultReport f
-verdictReport OutsideSet = refused 8 []
+verdictReport verdict.Fatal = accepted (1 ∷ [])
+verdictReport verdict.Recoverable = accepted (0 ∷ [])
+verdictReport (verdict.Card f) = faultReport f
+verdictReport verdict.OutsideSet = refused 8 []
+
+-- the lister
+abbrev pub listedReport : Listed → Report
+listedReport (listed.Count n) = accepted (n ∷ [])
+listedReport (listed.Card f) = faultReport f
+listedReport (listed.Short n) = refused 10 (n ∷ [])
+
+-- two cards alike
+abbrev pub alikeReport : Likeness → Report
+alikeReport likeness.Alike = accepted (1 ∷ [])
+alikeReport likeness.Different = accepted (0 ∷ [])
+alikeReport (likeness.Card f) = faultReport f

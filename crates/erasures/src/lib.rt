@@ -4,14 +4,20 @@
 // Every byte string, set and slice is a legal argument. What is answered for which input is said in
 // flat/specs/Faults.antt.
 ghost use mathlib.Core.Path.{_≡_};
-ghost use Prim.Native.Nat.{_*_, _≤_};
-ghost use lib.ListN.{length};
+ghost use mathlib.Core.List.{[]};
+ghost use Prim.Native.Nat.{_+_, _*_, _≤_};
+ghost use lib.ListN.{length, getD};
+ghost use Rattle.flat.specs.Lists.{padded, tabulate};
 ghost use Rattle.flat.specs.Cards.{code, columnsIn};
-ghost use Rattle.flat.specs.Erasures.{fatal};
-ghost use Rattle.flat.specs.Faults.{verdictReport as verdictOf};
-ghost use Rattle.erasures.specs.Reports.{verdictReport};
+ghost use Rattle.flat.specs.Erasures.{fatal, erasures, vector};
+ghost use Rattle.flat.specs.Faults.{unlessRefused, listReport, listSlice, erasuresReport, erasuresVector, erasuresSlice, verdictReport as verdictOf};
+ghost use Rattle.erasures.specs.Reports.{verdictReport, listedReport};
 use card::CardCheck;
 use card::CardFault;
+
+mod compare;
+
+pub use compare::alike;
 
 // The verdict call's answer: fatal or not, the card's fault, or a set with a disk that the code lacks.
 pub enum SetVerdict {
@@ -19,6 +25,20 @@ pub enum SetVerdict {
     Recoverable,
     Card(CardFault),
     OutsideSet,
+}
+
+// The lister's answer: the count, the card's fault, or the count needed where the slice is shorter.
+pub enum Listed {
+    Count(usize),
+    Card(CardFault),
+    Short(usize),
+}
+
+// The lister's answer with the vector: place i - 1 has how many entries hold i disks, for i from 1 to m.
+// The other places are 0, and all are where the call is refused.
+pub struct Listing {
+    pub answer: Listed,
+    pub vector: [usize; 17],
 }
 
 // Whether a row is left inside the set.
@@ -46,4 +66,65 @@ pub fn verdict(card: &[u8], set: u32) -> SetVerdict
             SetVerdict::Recoverable
         }
     }
+}
+
+// The vector out of the counts of entries by size.
+fn vector(counts: [usize; 18], m: usize) -> [usize; 17]
+    requires { ⌜ m ≤ 16 ⌝ }
+    ensures { λ r. ⌜ r ≡ padded 17 (tabulate m (λ i. getD counts (i + 1) 0)) ⌝ }
+{
+    let mut out = [0usize; 17];
+    for i in 0..m {
+        out[i] = counts[i + 1];
+    }
+    out
+}
+
+// The lister, on the columns of an accepted card: nothing is written before the count is known.
+fn list_columns(columns: &[u8], k: usize, m: usize, out: &mut [u32]) -> Listing
+    requires { ⌜ (1 ≤ k) × (k ≤ 16) × (m ≤ 16) × (2 * m ≤ length (now columns)) ⌝ }
+    ensures { λ r. ⌜ listedReport (r .answer) ≡ listReport (erasures (code k m (columnsIn m (now (columns .entry))))) (length (now (out .entry))) ⌝ }
+    ensures { λ r. ⌜ r .vector ≡ padded 17 (unlessRefused (listedReport (r .answer)) (vector (code k m (columnsIn m (now (columns .entry))))) []) ⌝ }
+    ensures { λ r. ⌜ now (out .exit) ≡ unlessRefused (listedReport (r .answer)) (listSlice (erasures (code k m (columnsIn m (now (columns .entry))))) (now (out .entry))) (now (out .entry)) ⌝ }
+{
+    let basis = bases::rows(columns, k, m);
+    let mut marks = [0u64; 1024];
+    let counts = lists::mark(basis, k + m, 0, &mut marks);
+    let count = lists::total(counts);
+    if out.len() < count {
+        return Listing {
+            answer: Listed::Short(count),
+            vector: [0usize; 17],
+        };
+    }
+    lists::fill(basis, 0, &marks, out);
+    Listing {
+        answer: Listed::Count(count),
+        vector: vector(counts, m),
+    }
+}
+
+// The lister: all minimal erasures into the slice, smaller size first, then smaller data part.
+pub fn list(card: &[u8], out: &mut [u32]) -> Listing
+    ensures { λ r. ⌜ listedReport (r .answer) ≡ erasuresReport (now (card .entry)) (length (now (out .entry))) ⌝ }
+    ensures { λ r. ⌜ r .vector ≡ erasuresVector (now (card .entry)) (length (now (out .entry))) ⌝ }
+    ensures { λ _. ⌜ now (out .exit) ≡ erasuresSlice (now (card .entry)) (now (out .entry)) ⌝ }
+{
+    match card::check(card) {
+        CardCheck::Bad(fault) => Listing {
+            answer: Listed::Card(fault),
+            vector: [0usize; 17],
+        },
+        CardCheck::Good { k, m } => list_columns(&card[2..], k, m, out),
+    }
+}
+
+// The vector of the columns of an accepted card, without the list.
+pub(crate) fn count_columns(columns: &[u8], k: usize, m: usize) -> [usize; 17]
+    requires { ⌜ (1 ≤ k) × (k ≤ 16) × (m ≤ 16) × (2 * m ≤ length (now columns)) ⌝ }
+    ensures { λ r. ⌜ r ≡ padded 17 (vector (code k m (columnsIn m (now (columns .entry))))) ⌝ }
+{
+    let basis = bases::rows(columns, k, m);
+    let mut marks = [0u64; 1024];
+    vector(lists::mark(basis, k + m, 0, &mut marks), m)
 }

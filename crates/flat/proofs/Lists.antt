@@ -1,14 +1,14 @@
 -- Laws of the words that the definitions are written in: tables, padded lists, and numbers in bytes.
 -- Assumes nothing.
 use mathlib.Core.Path.{_≡_, refl, sym, ap, ap₂, _∙_}
-use mathlib.Core.List.{List, [], _∷_, _++_}
+use mathlib.Core.List.{List, [], _∷_, _++_, map}
 use Prim.Native.Nat.{ℕ, zero, suc, _+_, _-_, _*_, _≤_, _<_}
-use native.Mathlib.Nat.{not-suc-le-zero}
+use native.Mathlib.Nat.{not-suc-le-zero, add-zero}
 use native.Mathlib.Omega.{arith}
 use lib.ListN.{length, getD, take, drop, set, replicate, length-append, length-replicate}
 use lib.Seq.{take-at, set-at, append-snoc}
 use native.Mathlib.Numerals.{add-one}
-use Rattle.flat.specs.Lists.{tabulate, padded, number, field}
+use Rattle.flat.specs.Lists.{range, tabulate, padded, number, field}
 
 -- ---- tables
 
@@ -28,6 +28,14 @@ unfolding tabulate
 tabulate-cong zero f g e = refl
 tabulate-cong (suc n) f g e =
     ap₂ _∷_ (e 0 (omega arith)) (tabulate-cong n (λ i. f (suc i)) (λ i. g (suc i)) (λ i h. e (suc i) (omega arith)))
+
+-- a mapped range is a table
+pub map-range : (f : ℕ → ℕ) (a n : ℕ) → map f (range a n) ≡ tabulate n (λ i. f (a + i))
+unfolding range tabulate
+map-range f a zero = refl
+map-range f a (suc n) =
+    ap₂ _∷_ (ap f (sym (add-zero a)))
+    (map-range f (suc a) n ∙ tabulate-cong n (λ i. f (suc a + i)) (λ i. f (a + suc i)) (λ i l. ap f (let e : suc a + i ≡ a + suc i = omega arith in e)))
 
 -- ---- padded lists
 

@@ -6,7 +6,7 @@ use mathlib.Core.Logic.{_⊎_, inl, inr, _≢_, ⊎-elim}
 use Prim.Native.Nat.{ℕ, zero, suc, _+_, _*_, _/_, _%_, _^_, _≤_, _<_}
 use native.Mathlib.Nat.{zero-lt-suc, mod-lt, zero-mul, one-mul}
 use native.Mathlib.Omega.{arith}
-use lib.Bits.{and-comm, and-le-r, xor-disjoint}
+use lib.Bits.{and-comm, and-le-r, and-zero-r, xor-disjoint}
 use lib.Count.{trailingZeros}
 use lib.Dec.{T, eqb}
 use Rattle.gf2.specs.Sets.{bit, has, _∩_, _⊕_, _∖_, _⊆_, _⊂_}
@@ -110,6 +110,10 @@ unfolding _∖_
 ∖-in R S i m f =
     has-in (R ⊕ R ∩ S) i
     (bit-⊕ R (R ∩ S) i ∙ ap (λ (x : ℕ). (bit R i + x) % 2) (bit-∩ R S i) ∙ rw (has-out R i m, has-not S i f))
+
+pub ∖-zero : (S : ℕ) → S ∖ 0 ≡ S
+unfolding _∖_ _∩_
+∖-zero S = ap (λ (x : ℕ). S ⊕ x) (and-zero-r S) ∙ ⊕-zero S
 
 -- R is inside S where nothing of R is outside
 pub ⊆-none : (R S : ℕ) → T (R ⊆ S) → R ∖ S ≡ 0

@@ -1,0 +1,82 @@
+-- The list of minimal erasures and its vector, as the enumeration over the rows gives them.
+-- Assumes nothing.
+use mathlib.Core.Path.{_≡_, refl, sym, ap, _∙_, subst}
+use mathlib.Core.Logic.{_⊎_, inl, inr, ⊎-elim}
+use mathlib.Core.List.{List, [], _∷_, map}
+use Prim.Native.Nat.{ℕ, zero, suc, _+_, _-_, _^_, _≤_, _<_}
+use native.Mathlib.Nat.{le-of-lt, add-comm}
+use native.Mathlib.Omega.{arith}
+use lib.Dec.{T, eqb}
+use lib.ListN.{length, getD}
+use Rattle.gf2.specs.Sets.{size, _∖_, _⊆_}
+use Rattle.gf2.specs.Span.{InSpan, select}
+use Rattle.gf2.specs.Within.{within}
+use Rattle.gf2.proofs.Tests.{below-or}
+use Rattle.gf2.proofs.Subsets.{zero-⊆, ∖-zero}
+use Rattle.gf2.proofs.Sizes.{size-lt}
+use Rattle.flat.specs.Lists.{range, tabulate, filter, orderedBy}
+use Rattle.flat.specs.Cards.{Code, disks}
+use Rattle.flat.specs.Erasures.{erasures, places, vector}
+use Rattle.flat.specs.Spans.{rows, selectors, erasuresByWord}
+use Rattle.flat.proofs.Lists.{length-tabulate, getD-tabulate, tabulate-cong, map-range}
+use Rattle.flat.proofs.Rows.{rows-length, rows-indep}
+use Rattle.flat.proofs.Fatal.{word-below}
+use Rattle.flat.proofs.Least.{selectors-out}
+use Rattle.flat.proofs.Members.{In, map-out}
+use Rattle.flat.proofs.ErasuresListed.{erasures-enumerated}
+use Rattle.words.specs.Listed.{kept, entry, keptFrom, entries, listed, tally}
+use Rattle.lists.proofs.Filters.{filter-cong, map-cong}
+use Rattle.lists.proofs.Blocks.{ordered-bound, ordered-count}
+use Rattle.lists.proofs.Entries.{kept-inside, entries-small}
+use Rattle.bases.proofs.Systematic.{rows-systematic}
+
+module _ (C : Code) where
+  pub vector-length : length (vector C) ≡ C .m
+  unfolding vector places
+  vector-length =
+      let count : ℕ → ℕ = λ i. length (filter (λ S. eqb (size S) i) (erasures C)) in
+      ap length (map-range count 1 (C .m)) ∙ length-tabulate (C .m) (λ i. count (1 + i))
+
+  -- every word contains the empty set, and loses nothing without it
+  entries-rows : entries (rows C) 0 ≡ map (select (rows C)) (selectors (rows C))
+  unfolding entries keptFrom selectors entry
+  entries-rows =
+      map-cong (entry (rows C) 0) (select (rows C)) (keptFrom (rows C) 0 1 (2 ^ length (rows C) - 1)) (λ x t. ∖-zero (select (rows C) x))
+      ∙ ap (map (select (rows C)))
+      (filter-cong (kept (rows C) 0) (λ x. eqb (length (within (select (rows C) x) (rows C))) 1) (range 1 (2 ^ length (rows C) - 1))
+      (λ x t. sym (kept-inside (rows C) 0 x (zero-⊆ (select (rows C) x)))))
+
+  -- an entry holds some of the code's disks
+  entries-fit : (w : ℕ) → In w (entries (rows C) 0) → size w < suc (disks C)
+  entries-fit w t =
+      let r = map-out (select (rows C)) w (selectors (rows C)) (subst (In w) entries-rows t) in
+      let m = selectors-out (rows C) (rows-indep C) (r .0) (r .1) .1 in
+      let h = size-lt (disks C) w (word-below C w (subst (InSpan (rows C)) (r .2) (m .word))) in
+      omega arith
+
+  module _ (hm : C .m ≤ 16) where
+    entries-below : (w : ℕ) → In w (entries (rows C) 0) → size w < 18
+    unfolding disks
+    entries-below = entries-small (disks C) (rows C) 0 (rows-systematic C) (omega (arith, rows-length C))
+
+    pub listed-erasures : listed (rows C) 0 18 ≡ erasures C
+    unfolding listed erasuresByWord
+    listed-erasures =
+        ⊎-elim
+        (λ l. ordered-bound size (entries (rows C) 0) (suc (disks C)) 18 entries-fit (le-of-lt l))
+        (λ l. sym (ordered-bound size (entries (rows C) 0) 18 (suc (disks C)) entries-below l))
+        (below-or (suc (disks C)) 18)
+        ∙ ap (orderedBy size (suc (disks C))) entries-rows ∙ sym (erasures-enumerated C)
+
+    -- the count of size i + 1 is the tally's
+    pub vector-tally : tabulate (C .m) (λ i. getD (tally (rows C) 0 18) (i + 1) 0) ≡ vector C
+    unfolding vector places tally listed
+    vector-tally =
+        tabulate-cong (C .m) (λ i. getD (tally (rows C) 0 18) (i + 1) 0) (λ i. count (1 + i))
+        (λ i l. getD-tabulate 18 (λ s. length (filter (λ w. eqb (size w) s) (entries (rows C) 0))) (i + 1) (omega arith)
+        ∙ sym (ordered-count size (entries (rows C) 0) (i + 1) 18 (omega arith))
+        ∙ ap (λ (l : List ℕ). length (filter (λ w. eqb (size w) (i + 1)) l)) listed-erasures ∙ ap count (add-comm i 1))
+        ∙ sym (map-range count 1 (C .m))
+      where
+        count : ℕ → ℕ
+        count i = length (filter (λ S. eqb (size S) i) (erasures C))

@@ -1,0 +1,177 @@
+-- `erasures::compare::alike` meets its contract. Assumes nothing.
+use mathlib.Core.Path.{_≡_, refl, sym, ap, ap₂, _∙_}
+use mathlib.Core.Bool.{Bool, true, false}
+use mathlib.Core.List.{List}
+use Prim.Native.Nat.{ℕ, _*_, _≤_}
+use native.Mathlib.Omega.{arith}
+use denote.Ref.{now}
+use lib.ListN.{length, drop}
+use Rattle.flat.specs.Lists.{same, padded}
+use Rattle.flat.specs.Cards.{Code, code, columnsIn}
+use Rattle.flat.specs.Erasures.{vector}
+use Rattle.flat.specs.Alike.{alike}
+use Rattle.flat.specs.Faults.{yesNo}
+use Rattle.card.specs.Reports.{checkReport}
+use Rattle.card.proofs.Laws.{rest}
+use Rattle.card.proofs.Callers.{GoodCard, good}
+use Rattle.erasures.proofs.Answered.{alike-first, alike-second, alike-both, data-differs, parity-differs, vectors-decide}
+use borrow.Author.Needs.{needs}
+use Rattle.erasures.proofs.compare.alike.Statement.{statement}
+use Rattle.erasures.proofs.compare.alike.Tie as tie
+
+check-requires : tie.Need-check-requires
+check-requires c κs = search needs
+
+enum-known-fault : tie.Need-enum-known-fault
+enum-known-fault c = search needs
+
+enum-known-k : tie.Need-enum-known-k
+enum-known-k c = search needs
+
+-- the first card is good
+abbrev start : tie.After-known-told2 → tie.Start
+start c = c .before .before .before .before .before .before
+
+abbrev kAt : tie.After-known-told2 → ℕ
+kAt c = c .before .k .given .0 .0
+
+abbrev mAt : tie.After-known-told2 → ℕ
+mAt c = c .before .k .given .0 .1 .0
+
+known : (c : tie.After-known-told2) → GoodCard (now (start c .args .first)) (kAt c) (mAt c)
+known c = good _ _ _ (ap checkReport (sym (c .before .k .given .1)) ∙ c .before .before .before .check .ensures)
+
+check-requires-2 : tie.Need-check-requires-2
+check-requires-2 c κs = search needs
+
+enum-known-fault-2 : tie.Need-enum-known-fault-2
+enum-known-fault-2 c = search needs
+
+enum-known-data : tie.Need-enum-known-data
+enum-known-data c = search needs
+
+-- and so is the second
+abbrev prior : tie.After-known-told4 → tie.After-known-told2
+prior c = c .before .before .before .before
+
+abbrev dataAt : tie.After-known-told4 → ℕ
+dataAt c = c .before .data .given .0 .0
+
+abbrev parityAt : tie.After-known-told4 → ℕ
+parityAt c = c .before .data .given .0 .1 .0
+
+known2 : (c : tie.After-known-told4) → GoodCard (now (start (prior c) .args .second)) (dataAt c) (parityAt c)
+known2 c = good _ _ _ (ap checkReport (sym (c .before .data .given .1)) ∙ c .before .before .before .check2 .ensures)
+
+returns : tie.Need-returns
+unfolding yesNo
+returns c =
+    let b = c .before in
+    alike-both _ _ _ _ (known (prior b)) _ _ (known2 b) false (data-differs _ _ _ _ (known (prior b)) _ _ (known2 b) (c .if1 .taken))
+
+returns-2 : tie.Need-returns-2
+unfolding yesNo
+returns-2 c =
+    let b = c .before .before in
+    alike-both _ _ _ _ (known (prior b)) _ _ (known2 b) false
+    (parity-differs _ _ _ _ (known (prior b)) _ _ (known2 b) (c .before .if1 .left) (c .if2 .taken))
+
+sub-count-columns : tie.Need-sub-count-columns
+sub-count-columns c = omega (arith, known (prior (c .before .before)) .size)
+
+part-count-columns-start : tie.Need-part-count-columns-start
+part-count-columns-start c = omega (arith, known (prior (c .before .before)) .size)
+
+part-count-columns-end : tie.Need-part-count-columns-end
+part-count-columns-end c = search needs
+
+count-columns-requires : tie.Need-count-columns-requires
+count-columns-requires c κs =
+    let g = known (prior (c .before .before .before)) in
+    (g .k-in .0, g .k-in .1, g .m-in .1, rw rest (omega (arith, g .columns)))
+
+sub-count-columns-2 : tie.Need-sub-count-columns-2
+sub-count-columns-2 c = omega (arith, known2 (c .before .before .before .before) .size)
+
+part-count-columns-start-2 : tie.Need-part-count-columns-start-2
+part-count-columns-start-2 c = omega (arith, known2 (c .before .before .before .before) .size)
+
+part-count-columns-end-2 : tie.Need-part-count-columns-end-2
+part-count-columns-end-2 c = search needs
+
+count-columns-requires-2 : tie.Need-count-columns-requires-2
+count-columns-requires-2 c κs =
+    let e = c .before .before .before in
+    let g = known (prior (e .before .before)) in
+    let h = known2 (e .before .before) in
+    (g .k-in .0, g .k-in .1, g .m-in .1, rw rest (omega (arith, h .columns, e .if2 .left)))
+
+equal-requires : tie.Need-equal-requires
+equal-requires c κs = search needs
+
+-- the two vectors were compared
+abbrev both : tie.After-equal → tie.Else2
+both c = c .before .before .before .before .before
+
+decided : (c : tie.After-equal)
+    → let b = both c .before .before in
+    let p = prior b in
+    c .equal .result
+    ≡ alike (code (kAt p) (mAt p) (columnsIn (mAt p) (drop 2 (now (start p .args .first)))))
+    (code (dataAt b) (parityAt b) (columnsIn (parityAt b) (drop 2 (now (start p .args .second)))))
+decided c =
+    let b = both c .before .before in
+    let p = prior b in
+    let x : c .before .before .before .count-columns .result ≡ padded 17 (vector (code (kAt p) (mAt p) (columnsIn (mAt p) (drop 2 (now (start p .args .first)))))) =
+    c .before .before .before .count-columns .ensures ∙ rw rest in
+    let y : c .before .count-columns2 .result ≡ padded 17 (vector (code (dataAt b) (parityAt b) (columnsIn (parityAt b) (drop 2 (now (start p .args .second)))))) =
+    c .before .count-columns2 .ensures ∙ rw rest
+    (ap₂ (λ (i j : ℕ). padded 17 (vector (code i j (columnsIn j (drop 2 (now (start p .args .second))))))) (both c .before .if1 .left) (both c .if2 .left)) in
+    c .equal .ensures ∙ ap₂ same x y ∙ vectors-decide _ _ _ _ (known p) _ _ (known2 b) (both c .before .if1 .left) (both c .if2 .left)
+
+returns-3 : tie.Need-returns-3
+unfolding yesNo
+returns-3 c =
+    let b = both (c .before) .before .before in
+    alike-both _ _ _ _ (known (prior b)) _ _ (known2 b) true (sym (c .if3 .taken) ∙ decided (c .before))
+
+returns-4 : tie.Need-returns-4
+returns-4 c =
+    alike-first _ _ (c .before .fault .given .0 .0) (ap checkReport (sym (c .before .fault .given .1)) ∙ c .before .before .before .check .ensures)
+
+returns-5 : tie.Need-returns-5
+returns-5 c =
+    alike-second _ _ _ _ (known (c .before .before .before .before)) (c .before .fault2 .given .0 .0)
+    (ap checkReport (sym (c .before .fault2 .given .1)) ∙ c .before .before .before .check2 .ensures)
+
+returns-6 : tie.Need-returns-6
+unfolding yesNo
+returns-6 c =
+    let b = both (c .before) .before .before in
+    alike-both _ _ _ _ (known (prior b)) _ _ (known2 b) false (sym (c .if3 .left) ∙ decided (c .before))
+
+pub alike-spec : {M : Type 1} → statement M
+alike-spec =
+    tie.close
+    (tie.spec
+    check-requires
+    enum-known-fault
+    enum-known-k
+    check-requires-2
+    enum-known-fault-2
+    enum-known-data
+    returns
+    returns-2
+    sub-count-columns
+    part-count-columns-start
+    part-count-columns-end
+    count-columns-requires
+    sub-count-columns-2
+    part-count-columns-start-2
+    part-count-columns-end-2
+    count-columns-requires-2
+    equal-requires
+    returns-3
+    returns-4
+    returns-5
+    returns-6)

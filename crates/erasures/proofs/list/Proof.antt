@@ -1,0 +1,85 @@
+-- `erasures::list` meets its contract. Assumes nothing.
+use mathlib.Core.Path.{_≡_, refl, sym, ap, _∙_}
+use mathlib.Core.List.{List}
+use Prim.Native.Nat.{ℕ, _+_, _*_, _≤_}
+use native.Mathlib.Omega.{arith}
+use borrow.Author.Needs.{needs}
+use denote.Ref.{now}
+use lib.ListN.{length}
+use Rattle.flat.specs.Faults.{erasuresReport}
+use Rattle.card.specs.Reports.{checkReport}
+use Rattle.card.proofs.Laws.{rest}
+use Rattle.card.proofs.Callers.{GoodCard, good}
+use Rattle.erasures.specs.Reports.{listedReport}
+use Rattle.erasures.proofs.Answered.{bad-report, bad-vector, bad-slice, good-report, good-vector, good-slice}
+use Rattle.erasures.proofs.list.Statement.{statement}
+use Rattle.erasures.proofs.list.Tie as tie
+
+check-requires : tie.Need-check-requires
+check-requires c κs = search needs
+
+enum-known-fault : tie.Need-enum-known-fault
+enum-known-fault c = search needs
+
+enum-known-k : tie.Need-enum-known-k
+enum-known-k c = search needs
+
+-- where the check found the card good
+abbrev cardAt : tie.After-known-told2 → List ℕ
+cardAt c = now (c .before .before .before .before .before .before .args .card)
+
+known : (c : tie.After-known-told2) → GoodCard (cardAt c) (c .before .k .given .0 .0) (c .before .k .given .0 .1 .0)
+known c = good _ _ _ (ap checkReport (sym (c .before .k .given .1)) ∙ c .before .before .before .check .ensures)
+
+sub-list-columns : tie.Need-sub-list-columns
+sub-list-columns c = omega (arith, known c .size)
+
+part-list-columns-start : tie.Need-part-list-columns-start
+part-list-columns-start c = omega (arith, known c .size)
+
+part-list-columns-end : tie.Need-part-list-columns-end
+part-list-columns-end c = search needs
+
+list-columns-requires : tie.Need-list-columns-requires
+list-columns-requires c κs =
+    let g = known (c .before .before) in
+    (g .k-in .0, g .k-in .1, g .m-in .1, rw rest (omega (arith, g .columns)))
+
+returns : tie.Need-returns
+returns c =
+    let e = ap checkReport (sym (c .before .fault .given .1)) ∙ c .before .before .before .check .ensures in
+    let f = c .before .fault .given .0 .0 in
+    (bad-report _ f e _, (bad-vector _ f e _, bad-slice _ f e _))
+
+same-length : tie.Need-same-length
+same-length c = search needs
+
+returns-2 : tie.Need-returns-2
+returns-2 c =
+    let d = c .before .before in
+    let s = d .before .before .before in
+    let g = known s in
+    let slice = now (s .before .before .before .before .before .before .args .out) in
+    let v = d .list-columns in
+    let e : listedReport (v .result .answer) ≡ erasuresReport (cardAt s) (length slice) = v .ensures .0 ∙ rw rest (good-report _ _ _ g _) in (
+      e,
+      (
+        v .ensures .1 .0 ∙ rw rest (good-vector _ _ _ g _ _ e),
+        v .ensures .1 .1 ∙ rw rest (good-slice _ _ _ g _ _ e),
+      ),
+    )
+
+pub list-spec : {M : Type 1} → statement M
+list-spec =
+    tie.close
+    (tie.spec
+    check-requires
+    enum-known-fault
+    enum-known-k
+    sub-list-columns
+    part-list-columns-start
+    part-list-columns-end
+    list-columns-requires
+    returns
+    same-length
+    returns-2)

@@ -1,0 +1,118 @@
+-- `erasures::list_columns` meets its contract: the list is counted, and written where it fits.
+-- Assumes nothing.
+use mathlib.Core.Path.{_≡_, refl, sym, ap, _∙_, subst}
+use mathlib.Core.List.{List}
+use Prim.Native.Nat.{ℕ, _+_, _≤_, _<_}
+use native.Mathlib.Omega.{arith}
+use borrow.Author.Needs.{needs}
+use denote.Ref.{now}
+use lib.ListN.{length, getD, take}
+use Rattle.flat.specs.Lists.{padded, tabulate}
+use Rattle.flat.specs.Cards.{Code, code, columnsIn}
+use Rattle.flat.specs.Erasures.{erasures}
+use Rattle.flat.specs.Faults.{unlessRefused, listSlice}
+use Rattle.flat.specs.Spans.{rows}
+use Rattle.flat.proofs.Rows.{rows-length}
+use Rattle.words.specs.Listed.{listed, tally}
+use Rattle.lists.specs.Marks.{noMarks}
+use Rattle.lists.specs.Sizes.{sum}
+use Rattle.lists.proofs.Passes.{tally-small, tally-total}
+use Rattle.erasures.proofs.Enumerated.{listed-erasures, vector-tally}
+use Rattle.erasures.proofs.Laws.{taken-rows, rows-markable, list-short, list-fits}
+use Rattle.erasures.proofs.list_columns.Statement.{statement}
+use Rattle.erasures.proofs.list_columns.Tie as tie
+
+rows-requires : tie.Need-rows-requires
+rows-requires c κs = search needs
+
+add-mark : tie.Need-add-mark
+add-mark c = search needs
+
+slice-aggregate-mark : tie.Need-slice-aggregate-mark
+slice-aggregate-mark c = search needs
+
+mark-requires : tie.Need-mark-requires
+unfolding noMarks
+mark-requires c κs =
+    let a = c .before .before .before .before .args in
+    let b = c .before .rows in
+    (rows-markable (a .k) (a .m) _ _ _ (omega arith) (omega arith) (b .ensures .0) (b .ensures .1), refl)
+
+-- what is known once the entries are marked
+abbrev start : tie.After-mark → tie.Start
+start c = c .before .before .before .before .before
+
+abbrev codeAt : tie.After-mark → Code
+codeAt c = code (start c .args .k) (start c .args .m) (columnsIn (start c .args .m) (now (start c .args .columns)))
+
+tallied : (c : tie.After-mark) → c .mark .result ≡ tally (rows (codeAt c)) 0 18
+tallied c =
+    let b = c .before .before .rows in
+    c .mark .ensures .0 ∙ ap (λ (l : List ℕ). tally l 0 18) (taken-rows (start c .args .k) (start c .args .m) _ _ _ (b .ensures .0) (b .ensures .1))
+
+total-requires : tie.Need-total-requires
+total-requires c κs s h =
+    subst (λ (l : List ℕ). getD l s 0 < 65536) (sym (tallied (c .before)))
+    (tally-small (rows (codeAt (c .before))) 0 18 s (omega (arith, rows-length (codeAt (c .before)))) h)
+
+-- what the total counts
+counted : (c : tie.After-total) → c .total .result ≡ length (erasures (codeAt (c .before .before)))
+counted c =
+    let C = codeAt (c .before .before) in
+    c .total .ensures ∙ ap sum (tallied (c .before .before)) ∙ tally-total (rows C) 0 18 ∙ ap length (listed-erasures C (omega arith))
+
+returns : tie.Need-returns
+unfolding unlessRefused padded
+returns c = (list-short (erasures (codeAt (c .before .before .before))) _ _ (counted (c .before)) (c .if1 .taken), (refl, refl))
+
+slice-aggregate-fill : tie.Need-slice-aggregate-fill
+slice-aggregate-fill c = search needs
+
+fill-requires : tie.Need-fill-requires
+fill-requires c κs =
+    let t = c .before .before .before in
+    let b = t .before .before .before .before .rows in
+    let a = start (t .before .before) .args in
+    let e : listed (take (b .result .count) (b .result .rows)) 0 18 ≡ erasures (codeAt (t .before .before)) =
+    ap (λ (l : List ℕ). listed l 0 18) (taken-rows (a .k) (a .m) _ _ _ (b .ensures .0) (b .ensures .1)) ∙ listed-erasures (codeAt (t .before .before)) (omega arith) in
+    ((omega arith, t .before .before .mark .ensures .1), omega (arith, ap length e, counted t))
+
+vector-requires : tie.Need-vector-requires
+vector-requires c κs = search needs
+
+same-length : tie.Need-same-length
+same-length c = search needs
+
+returns-2 : tie.Need-returns-2
+unfolding unlessRefused
+returns-2 c =
+    let t = c .before .before .before .before .before .before .before in
+    let C = codeAt (t .before .before) in
+    let b = t .before .before .before .before .rows in
+    let a = start (t .before .before) .args in
+    let e : listed (take (b .result .count) (b .result .rows)) 0 18 ≡ erasures C =
+    ap (λ (l : List ℕ). listed l 0 18) (taken-rows (a .k) (a .m) _ _ _ (b .ensures .0) (b .ensures .1)) ∙ listed-erasures C (omega arith) in (
+      list-fits (erasures C) _ _ (counted t) (c .before .before .before .before .before .before .if1 .left),
+      (
+        c .vector .ensures
+            ∙ ap (λ (l : List ℕ). padded 17 (tabulate (a .m) (λ i. getD l (i + 1) 0))) (tallied (t .before .before))
+            ∙ ap (padded 17) (vector-tally C (omega arith)),
+        c .before .before .before .fill .ensures ∙ ap (λ (l : List ℕ). listSlice l (now (a .out))) e,
+      ),
+    )
+
+pub list-columns-spec : {M : Type 1} → statement M
+list-columns-spec =
+    tie.close
+    (tie.spec
+    rows-requires
+    add-mark
+    slice-aggregate-mark
+    mark-requires
+    total-requires
+    returns
+    slice-aggregate-fill
+    fill-requires
+    vector-requires
+    same-length
+    returns-2)

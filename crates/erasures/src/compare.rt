@@ -1,0 +1,53 @@
+// Two cards alike: the same counts of disks and the same vectors of minimal erasures.
+ghost use mathlib.Core.Path.{_≡_};
+ghost use lib.ListN.{length};
+ghost use Rattle.flat.specs.Lists.{same};
+ghost use Rattle.flat.specs.Faults.{alikeReport as alikeOf};
+ghost use Rattle.erasures.specs.Reports.{alikeReport};
+use card::CardCheck;
+use card::CardFault;
+
+// Alike or not, or the fault of the first card that has one.
+pub enum Likeness {
+    Alike,
+    Different,
+    Card(CardFault),
+}
+
+// Whether the two vectors are equal, place by place.
+fn equal(a: [usize; 17], b: [usize; 17]) -> bool
+    ensures { λ r. ⌜ r ≡ same a b ⌝ }
+{
+    for i in 0..17 {
+        if a[i] != b[i] {
+            return false;
+        }
+    }
+    true
+}
+
+// Whether two cards are alike. The first card's refusals come before the second's.
+pub fn alike(first: &[u8], second: &[u8]) -> Likeness
+    ensures { λ r. ⌜ alikeReport r ≡ alikeOf (now (first .entry)) (now (second .entry)) ⌝ }
+{
+    match card::check(first) {
+        CardCheck::Bad(fault) => Likeness::Card(fault),
+        CardCheck::Good { k, m } => match card::check(second) {
+            CardCheck::Bad(fault) => Likeness::Card(fault),
+            CardCheck::Good { k: data, m: parity } => {
+                if k != data {
+                    return Likeness::Different;
+                }
+                if m != parity {
+                    return Likeness::Different;
+                }
+                let a = crate::count_columns(&first[2..], k, m);
+                let b = crate::count_columns(&second[2..], k, m);
+                if equal(a, b) {
+                    return Likeness::Alike;
+                }
+                Likeness::Different
+            }
+        },
+    }
+}

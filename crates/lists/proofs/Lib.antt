@@ -1,0 +1,7 @@
+pub mod Marks
+pub mod Filters
+pub mod Blocks
+pub mod Entries
+pub mod Counting
+pub mod Passes
+pub mod Writing

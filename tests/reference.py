@@ -1,0 +1,87 @@
+#!/usr/bin/env python3
+"""The listing of a card by brute force, straight from document 01's definitions.
+
+It shares nothing with the engine: sets are tried one by one, and two data words are compared disk by disk. It is meant for
+codes of some 12 disks at the most.
+
+    reference.py CARD          the text that the listing program prints for the card in the file CARD
+    reference.py --write DIR   writes DIR/NAME.txt for each DIR/NAME.card
+"""
+import pathlib
+import sys
+
+ENTRIES = 16000  # what the listing program lends
+
+
+def fault(card):
+    """The number of the card's refusal, or 0."""
+    if len(card) < 2:
+        return 1
+    k, m = card[0], card[1]
+    if not 1 <= k <= 16:
+        return 2
+    if not 1 <= m <= 16:
+        return 3
+    if len(card) != 2 + 2 * m:
+        return 4
+    if any(not 1 <= c < 2**k for c in columns(card)):
+        return 5
+    return 0
+
+
+def columns(card):
+    return [card[2 + 2 * j] + 256 * card[3 + 2 * j] for j in range(card[1])]
+
+
+def holds(k, cols, x, disk):
+    """What a disk holds for the data word x: a data disk its own bit, a parity disk the XOR of the bits of its data disks."""
+    if disk < k:
+        return x >> disk & 1
+    return sum(x >> i & 1 for i in range(k) if cols[disk - k] >> i & 1) % 2
+
+
+def fatal(k, cols, lost):
+    """Are there two different data words that agree on every disk that is not lost?"""
+    survivors = [d for d in range(k + len(cols)) if not lost >> d & 1]
+    seen = set()
+    for x in range(2**k):
+        left = tuple(holds(k, cols, x, d) for d in survivors)
+        if left in seen:
+            return True
+        seen.add(left)
+    return False
+
+
+def minimal_erasures(k, cols):
+    n = k + len(cols)
+    all_fatal = {s for s in range(2**n) if fatal(k, cols, s)}
+    minimal = [s for s in all_fatal if not any(r != s and r & s == r for r in all_fatal)]
+    return sorted(minimal, key=lambda s: (bin(s).count("1"), s % 2**k))
+
+
+def listing(card):
+    number = fault(card)
+    if number:
+        return f"refused {number}\n"
+    k, m, cols = card[0], card[1], columns(card)
+    entries = minimal_erasures(k, cols)
+    if len(entries) > ENTRIES:
+        return "refused 10\n"
+    sizes = [bin(s).count("1") for s in entries]
+    lines = [f"code {k} {m}"]
+    lines += [f"{size} {s}" for size, s in zip(sizes, entries)]
+    lines.append(" ".join(["vector"] + [str(sizes.count(i)) for i in range(1, m + 1)]))
+    return "".join(line + "\n" for line in lines)
+
+
+def main(args):
+    if len(args) == 2 and args[0] == "--write":
+        for card in sorted(pathlib.Path(args[1]).glob("*.card")):
+            card.with_suffix(".txt").write_text(listing(card.read_bytes()))
+    elif len(args) == 1:
+        sys.stdout.write(listing(pathlib.Path(args[0]).read_bytes()))
+    else:
+        sys.exit(__doc__)
+
+
+main(sys.argv[1:])
