@@ -7,19 +7,47 @@ use Rattle.gf2.specs.If.{if_then_else_}
 use Rattle.flat.specs.Faults.{Report}
 use Rattle.card.proofs.Theorems.{carried, carried-back}
 use Rattle.erasures.specs.declared.SetVerdict.{SetVerdict}
-use Rattle.erasures.specs.declared.SetVerdict.the-variants.{Fatal, Recoverable, Card, OutsideSet}
-use Rattle.erasures.specs.Reports.{verdictReport}
-use Rattle.erasures.specs.Theorems.{VerdictInjective}
+use Rattle.erasures.specs.declared.SetVerdict.the-variants as verdict
+use Rattle.erasures.specs.declared.Listed.{Listed}
+use Rattle.erasures.specs.declared.Listed.the-variants as listed
+use Rattle.erasures.specs.declared.compare.Likeness.{Likeness}
+use Rattle.erasures.specs.declared.compare.Likeness.the-variants as likeness
+use Rattle.erasures.specs.Reports.{verdictReport, listedReport, alikeReport}
+use Rattle.erasures.specs.Theorems.{VerdictInjective, ListedInjective, AlikeInjective}
 
 abbrev verdictFrom : Report → SetVerdict
 verdictFrom r =
-    carried r Card (if eqb (r .number) 8 then OutsideSet else if eqb (getD (r .values) 0 0) 1 then Fatal else Recoverable)
+    carried r verdict.Card
+    (if eqb (r .number) 8 then verdict.OutsideSet else if eqb (getD (r .values) 0 0) 1 then verdict.Fatal else verdict.Recoverable)
 
 verdict-back : (a : SetVerdict) → verdictFrom (verdictReport a) ≡ a
-verdict-back Fatal = refl
-verdict-back Recoverable = refl
-verdict-back (Card f) = carried-back f Card _
-verdict-back OutsideSet = refl
+verdict-back verdict.Fatal = refl
+verdict-back verdict.Recoverable = refl
+verdict-back (verdict.Card f) = carried-back f verdict.Card _
+verdict-back verdict.OutsideSet = refl
+
+abbrev listedFrom : Report → Listed
+listedFrom r =
+    carried r listed.Card (if eqb (r .number) 10 then listed.Short (getD (r .values) 0 0) else listed.Count (getD (r .values) 0 0))
+
+listed-back : (a : Listed) → listedFrom (listedReport a) ≡ a
+listed-back (listed.Count n) = refl
+listed-back (listed.Card f) = carried-back f listed.Card _
+listed-back (listed.Short n) = refl
+
+abbrev likenessFrom : Report → Likeness
+likenessFrom r = carried r likeness.Card (if eqb (getD (r .values) 0 0) 1 then likeness.Alike else likeness.Different)
+
+likeness-back : (a : Likeness) → likenessFrom (alikeReport a) ≡ a
+likeness-back likeness.Alike = refl
+likeness-back likeness.Different = refl
+likeness-back (likeness.Card f) = carried-back f likeness.Card _
 
 pub verdict-injective : VerdictInjective
 verdict-injective a b e = sym (verdict-back a) ∙ ap verdictFrom e ∙ verdict-back b
+
+pub listed-injective : ListedInjective
+listed-injective a b e = sym (listed-back a) ∙ ap listedFrom e ∙ listed-back b
+
+pub alike-injective : AlikeInjective
+alike-injective a b e = sym (likeness-back a) ∙ ap likenessFrom e ∙ likeness-back b

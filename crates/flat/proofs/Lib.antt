@@ -14,5 +14,6 @@ pub mod Least
 pub mod ErasuresListed
 pub mod CheckWords
 pub mod EquationsListed
-pub mod Theorems
+pub mod Verdicts
 pub mod Worked
+pub mod Theorems

@@ -18,6 +18,8 @@ use Rattle.flat.proofs.Duality as duality
 use Rattle.flat.proofs.Order.{sorted-at}
 use Rattle.flat.proofs.ErasuresListed as listed
 use Rattle.flat.proofs.EquationsListed as equated
+use Rattle.flat.proofs.Verdicts as verdicts
+use Rattle.flat.proofs.Worked as worked
 
 pub card-reads-back : Theorems.CardReadsBack
 card-reads-back = round.reads-back
@@ -85,3 +87,12 @@ minimal-sizes C w = (
   λ s e. omega (arith, one-left-size (disks C) (rows C) (fatal.word-below C) w s e, spans.rows-length C),
   λ s e. omega (arith, one-left-size (disks C) (checks C) (λ v t. spans.checks-span C v .0 t .0) w s e, spans.checks-length C),
 )
+
+pub verdict-listed : Theorems.VerdictListed
+verdict-listed = verdicts.verdict-listed
+
+pub no-list-for-all : Theorems.NoListForAll
+no-list-for-all = worked.no-list-for-all
+
+pub rows-are-not-all : Theorems.RowsAreNotAll
+rows-are-not-all = worked.rows-are-not-all

@@ -1,12 +1,18 @@
 -- The worked codes of document 01: antt computes the definitions at the table's constants.
 -- Assumes nothing.
-use mathlib.Core.Path.{refl}
-use Rattle.flat.specs.Lists.{member}
-use Rattle.flat.specs.Cards.{cardBytes}
+use mathlib.Core.Path.{_≡_, refl, sym, ap, _∙_}
+use Prim.Native.Nat.{ℕ, suc}
+use native.Mathlib.Omega.{arith}
+use lib.ListN.{length}
+use Rattle.gf2.specs.Sets.{size}
+use Rattle.flat.specs.Lists.{member, orderedBy}
+use Rattle.flat.specs.Cards.{cardBytes, disks}
 use Rattle.flat.specs.Erasures.{fatal, erasures, vector}
 use Rattle.flat.specs.Equations.{equations}
 use Rattle.flat.specs.Faults.{cardReport, encodeStripe, erasuresReport, rebuildReport}
-use Rattle.flat.specs.Worked.{Worked}
+use Rattle.flat.specs.Spans.{rows}
+use Rattle.flat.specs.Worked.{Worked, C1, C3, C4}
+use Rattle.flat.specs.Theorems.{NoListForAll, RowsAreNotAll}
 
 pub worked : Worked
 unfolding erasures vector fatal member equations cardBytes encodeStripe rebuildReport cardReport erasuresReport
@@ -23,3 +29,17 @@ worked =
       c11 = (refl, refl);
       c12 = (refl, refl);
     }
+
+-- ---- impostors
+
+pub no-list-for-all : NoListForAll
+no-list-for-all list same =
+    let e : C3 .list ≡ C4 .list = sym (worked .c3 .0 .0) ∙ same (C3 .of) ∙ sym (same (C4 .of)) ∙ worked .c4 .0 in
+    absurd (let z : _≡_ {A = ℕ} 2 1 = ap length e in omega arith)
+
+four-rows : length (orderedBy size (suc (disks (C1 .of))) (rows (C1 .of))) ≡ 4
+unfolding orderedBy size disks rows
+four-rows = refl
+
+pub rows-are-not-all : RowsAreNotAll
+rows-are-not-all e = absurd (let z : _≡_ {A = ℕ} 14 4 = sym (ap length (worked .c1 .0 .0)) ∙ ap length e ∙ four-rows in omega arith)

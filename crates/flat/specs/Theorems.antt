@@ -3,17 +3,18 @@
 use mathlib.Core.Path.{_≡_}
 use mathlib.Core.Logic.{_⊎_, _≢_, _↔_}
 use mathlib.Core.List.{List, [], _∷_}
-use Prim.Native.Nat.{ℕ, _+_, _^_, _≤_, _<_}
+use Prim.Native.Nat.{ℕ, suc, _+_, _^_, _≤_, _<_}
 use lib.Dec.{T}
 use lib.ListN.{length, getD, take}
 use Rattle.gf2.specs.Sets.{has, size, _⊕_, _⊆_, over}
 use Rattle.gf2.specs.Span.{InSpan, Independent}
 use Rattle.gf2.specs.Within.{within}
-use Rattle.flat.specs.Lists.{Bytes, member, padded}
-use Rattle.flat.specs.Cards.{Code, code, codeOf, disks, dataPart}
+use Rattle.flat.specs.Lists.{Bytes, member, padded, orderedBy}
+use Rattle.flat.specs.Cards.{Code, code, codeOf, disks, setOk, dataPart}
 use Rattle.flat.specs.Erasures.{holdsBit, survivors, fatal, minimalErasure, erasures}
 use Rattle.flat.specs.Equations.{equation, minimalEquation, equations}
-use Rattle.flat.specs.Faults.{accepted, cardReport, cardColumns, cardWriteReport, cardWriteBuffer}
+use Rattle.flat.specs.Faults.{accepted, cardReport, cardColumns, cardWriteReport, cardWriteBuffer, verdictReport, erasuresReport, erasuresSlice}
+use Rattle.flat.specs.Worked.{C1}
 use Rattle.flat.specs.Spans.{codeword, rows, checks, undetermined, erasuresByWord, equationsByParities}
 
 -- ---- cards (demand 2)
@@ -140,3 +141,23 @@ MinimalSizes =
     (C : Code) (w : ℕ)
     → (InSpan (rows C) w → length (within w (rows C)) ≡ 1 → size w ≤ C .m + 1)
     × (InSpan (checks C) w → length (within w (checks C)) ≡ 1 → size w ≤ C .k + 1)
+
+-- ---- verdict and list share one verdict
+
+-- For an accepted card and a set of its disks, the verdict is yes exactly where the set contains one of the count entries that the
+-- lister writes, into any slice that it accepts.
+abbrev pub VerdictListed : Type 0
+VerdictListed =
+    (card slice : List ℕ) (S k m count : ℕ) → cardReport card ≡ accepted (k ∷ m ∷ []) → T (setOk (codeOf card) S)
+    → erasuresReport card (length slice) ≡ accepted (count ∷ [])
+    → (verdictReport card S ≡ accepted (1 ∷ [])) ↔ ((R : ℕ) × T (member R (take count (erasuresSlice card slice))) × T (R ⊆ S))
+
+-- ---- impostors that no edit of the code can show
+
+-- No list is that of every code.
+abbrev pub NoListForAll : Type 0
+NoListForAll = (list : List ℕ) → ((C : Code) → erasures C ≡ list) → ⊥
+
+-- The single rows are not the list: C1 has more.
+abbrev pub RowsAreNotAll : Type 0
+RowsAreNotAll = erasures (C1 .of) ≢ orderedBy size (suc (disks (C1 .of))) (rows (C1 .of))
