@@ -1,0 +1,49 @@
+// What the listing program prints for a card, rendered into a lent buffer.
+//
+// The text is that of specs/Printed.antt.
+ghost use mathlib.Core.Path.{_≡_};
+ghost use Prim.Native.Nat.{_≤_};
+ghost use lib.ListN.{length};
+ghost use Rattle.flat.specs.Faults.{erasuresSlice};
+ghost use Rattle.card.specs.Reports.{faultReport};
+ghost use Rattle.text.specs.Answers.{textAnswer, textBuffer};
+ghost use Rattle.render.specs.Printed.{printed};
+
+use card::CardFault;
+use erasures::Listed;
+use text::Text;
+
+// The number of a card's fault.
+fn number(fault: CardFault) -> usize
+    ensures { λ r. ⌜ r ≡ faultReport fault .number ⌝ }
+{
+    match fault {
+        CardFault::Short => 1,
+        CardFault::DataCount => 2,
+        CardFault::ParityCount => 3,
+        CardFault::Length => 4,
+        CardFault::Column(_) => 5,
+    }
+}
+
+// The text for a card, with the entries lent for its list. A buffer too short for the text stays as it
+// was, and the answer is the length needed.
+pub fn render(card: &[u8], entries: &mut [u32], out: &mut [u8]) -> Text
+    requires { ⌜ length (now entries) ≤ 65536 ⌝ }
+    ensures { λ r. ⌜ r ≡ textAnswer (printed (now (card .entry)) (length (now (entries .entry)))) (length (now (out .entry))) ⌝ }
+    ensures { λ _. ⌜ now (out .exit) ≡ textBuffer (printed (now (card .entry)) (length (now (entries .entry)))) (now (out .entry)) ⌝ }
+    ensures { λ _. ⌜ now (entries .exit) ≡ erasuresSlice (now (card .entry)) (now (entries .entry)) ⌝ }
+{
+    let listing = erasures::list(card, entries);
+    let answer = listing.answer;
+    let vector = listing.vector;
+    match answer {
+        Listed::Card(fault) => text::refused(number(fault), out),
+        Listed::Short(_) => text::refused(10, out),
+        Listed::Count(count) => {
+            let k = card[0] as usize;
+            let m = card[1] as usize;
+            text::listing(k, m, &entries[..count], &vector[..m], out)
+        }
+    }
+}
