@@ -15,7 +15,7 @@ use Rattle.flat.specs.Lists.{Bytes, tabulate, each, bytes, field}
 use Rattle.flat.specs.Cards.{Code, code, countOk, columnOk, firstBad, cardLength, cardBytes, columnsIn, codeOf}
 use Rattle.flat.specs.Faults.{Report, accepted, refused, codeReport, cardReport}
 use Rattle.flat.proofs.Lists.{length-tabulate, tabulate-cong, field-two}
-use Rattle.flat.proofs.Reports.{passed}
+use Rattle.flat.proofs.Reports.{passed, passed-number}
 
 -- ---- the tests
 
@@ -145,6 +145,23 @@ accepted-card card k m e =
       sound = subst Sound is (s .0);
       size = eqb-true (length card) (cardLength (C .m)) (s .1) ∙ ap cardLength em;
     }
+
+-- a card whose report has the number 0 is accepted with its own counts
+pub card-accepted : (card : List ℕ) → cardReport card .number ≡ 0 → cardReport card ≡ accepted (codeOf card .k ∷ codeOf card .m ∷ [])
+unfolding cardReport codeReport
+card-accepted card e =
+    let C = codeOf card in
+    let whole = accepted (C .k ∷ C .m ∷ []) in
+    let bad = firstBad (C .k) (C .columns) in
+    let a = passed-number (ltb (length card) 2) 0 [] (codeReport C (eqb (length card) (cardLength (C .m))) whole) e in
+    let ea = sym (ap (λ (r : Report). r .number) a) ∙ e in
+    let b = passed-number (not (countOk (C .k))) 1 [] _ ea in
+    let eb = sym (ap (λ (r : Report). r .number) b) ∙ ea in
+    let c = passed-number (not (countOk (C .m))) 2 [] _ eb in
+    let ec = sym (ap (λ (r : Report). r .number) c) ∙ eb in
+    let d = passed-number (not (eqb (length card) (cardLength (C .m)))) 3 [] _ ec in
+    let ed = sym (ap (λ (r : Report). r .number) d) ∙ ec in
+    a ∙ b ∙ c ∙ d ∙ passed-number (ltb bad (C .m)) 4 (bad ∷ []) whole ed
 
 pub report-accepted : (card : List ℕ) (C : Code) → codeOf card ≡ C → Sound C → length card ≡ cardLength (C .m)
     → cardReport card ≡ accepted (C .k ∷ C .m ∷ [])

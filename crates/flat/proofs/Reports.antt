@@ -5,7 +5,7 @@ use mathlib.Core.Bool.{Bool, true, false}
 use mathlib.Core.List.{List}
 use Prim.Native.Nat.{ℕ, zero, suc}
 use native.Mathlib.Omega.{arith}
-use lib.Dec.{eqb·suc-zero}
+use lib.Dec.{eqb, eqb·suc-zero}
 use Rattle.gf2.specs.If.{if_then_else_}
 use Rattle.flat.specs.Cards.{Code, codeOf}
 use Rattle.flat.specs.Faults.{Report, accepted, refused, unlessRefused, cardReport, withCard}
@@ -15,6 +15,12 @@ pub passed : (b : Bool) (n : ℕ) (vs ws : List ℕ) (rest : Report) → (if b t
     → (b ≡ false) × (rest ≡ accepted ws)
 passed true n vs ws rest e = absurd (let z : suc n ≡ 0 = ap (λ (r : Report). r .number) e in omega arith)
 passed false n vs ws rest e = (refl, e)
+
+-- the same of the number alone
+pub passed-number : (b : Bool) (n : ℕ) (vs : List ℕ) (rest : Report) → (if b then refused (suc n) vs else rest) .number ≡ 0
+    → (if b then refused (suc n) vs else rest) ≡ rest
+passed-number true n vs rest e = absurd (omega arith)
+passed-number false n vs rest e = refl
 
 module _ {A : Type 0} where
   pub unless-accepted : (r : Report) (ws : List ℕ) (new old : A) → r ≡ accepted ws → unlessRefused r new old ≡ new
@@ -33,3 +39,15 @@ with-accepted card ws f e = unless-accepted (cardReport card) ws (f (codeOf card
 pub with-refused : (card : List ℕ) (n : ℕ) (vs : List ℕ) (f : Code → Report) → cardReport card ≡ refused (suc n) vs → withCard card f ≡ refused (suc n) vs
 unfolding withCard
 with-refused card n vs f e = unless-refused (cardReport card) n vs (f (codeOf card)) (cardReport card) e ∙ e
+
+-- a call that takes a card is accepted only where the card is
+pub with-out : (card ws : List ℕ) (f : Code → Report) → withCard card f ≡ accepted ws → (cardReport card .number ≡ 0) × (f (codeOf card) ≡ accepted ws)
+unfolding withCard unlessRefused
+with-out card ws f e = go (cardReport card .number) refl e
+  where
+    go : (n : ℕ) → cardReport card .number ≡ n → (if eqb n 0 then f (codeOf card) else cardReport card) ≡ accepted ws
+        → (n ≡ 0) × (f (codeOf card) ≡ accepted ws)
+    go zero q h = (refl, h)
+    go (suc n) q h =
+        let g : cardReport card ≡ accepted ws = rw (eqb·suc-zero n) at h in
+        absurd (let z : suc n ≡ 0 = sym q ∙ ap (λ (r : Report). r .number) g in omega arith)

@@ -38,16 +38,30 @@ module _ (card : List ℕ) (k m : ℕ) (ok : cardReport card ≡ accepted (k ∷
       ∙ ap (λ (b : Bool). if not b then refused 8 [] else accepted (yesNo (fatal C S) ∷ [])) (T-true {b = setOk C S} t)
 
   -- an accepted call writes the list, and its count is the list's
-  pub entries-written : (slice : List ℕ) (count : ℕ) → erasuresReport card (length slice) ≡ accepted (count ∷ [])
-      → take count (erasuresSlice card slice) ≡ erasures C
-  unfolding erasuresReport erasuresSlice listReport listSlice
-  entries-written slice count e =
+  pub record Written (slice : List ℕ) (count : ℕ) : Type 0 where
+    pub counted : length (erasures C) ≡ count
+    pub fits : count ≤ length slice
+    pub written : erasuresSlice card slice ≡ listSlice (erasures C) slice
+
+  pub list-written : (slice : List ℕ) (count : ℕ) → erasuresReport card (length slice) ≡ accepted (count ∷ []) → Written slice count
+  unfolding erasuresReport erasuresSlice listReport
+  list-written slice count e =
       let r : listReport (erasures C) (length slice) ≡ accepted (count ∷ []) =
       sym (with-accepted card (k ∷ m ∷ []) (λ D. listReport (erasures D) (length slice)) ok) ∙ e in
       let p = passed (ltb (length slice) (length (erasures C))) 9 (length (erasures C) ∷ []) (count ∷ []) (accepted (length (erasures C) ∷ [])) r in
       let n : length (erasures C) ≡ count = ap (λ (x : Report). getD (x .values) 0 0) (p .1) in
-      ap (take count) (unless-accepted (erasuresReport card (length slice)) (count ∷ []) (listSlice (erasures C) slice) slice e)
-      ∙ take-at (erasures C) (drop (length (erasures C)) slice) count n
+      record {
+        counted = n;
+        fits = omega (arith, ltb-false (length slice) (length (erasures C)) (p .0));
+        written = unless-accepted (erasuresReport card (length slice)) (count ∷ []) (listSlice (erasures C) slice) slice e;
+      }
+
+  pub entries-written : (slice : List ℕ) (count : ℕ) → erasuresReport card (length slice) ≡ accepted (count ∷ [])
+      → take count (erasuresSlice card slice) ≡ erasures C
+  unfolding listSlice
+  entries-written slice count e =
+      let w = list-written slice count e in
+      ap (take count) (w .written) ∙ take-at (erasures C) (drop (length (erasures C)) slice) count (w .counted)
 
 pub verdict-listed : VerdictListed
 verdict-listed card slice S k m count ok t e =

@@ -5,15 +5,23 @@ use libc::STDIN_FILENO;
 use libc::STDOUT_FILENO;
 use text::Text;
 
+// Writes the text that was rendered into the buffer.
+fn print(answer: Text, out: &[u8]) {
+    match answer {
+        Text::Written(length) => {
+            if length <= out.len() {
+                io::write_all(STDOUT_FILENO, &out[..length]);
+            }
+        }
+        Text::Short(_) => {}
+    }
+}
+
 fn main() {
     let mut card = [0u8; 35];
     let read = io::read_full(STDIN_FILENO, &mut card);
     let mut entries = [0u32; 16000];
     let mut out = [0u8; 262144];
-    match render::render(&card[..read], &mut entries, &mut out) {
-        Text::Written(length) => {
-            io::write_all(STDOUT_FILENO, &out[..length]);
-        }
-        Text::Short(_) => {}
-    }
+    let answer = render::render(&card[..read], &mut entries, &mut out);
+    print(answer, &out);
 }

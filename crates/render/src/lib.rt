@@ -8,7 +8,6 @@ ghost use Rattle.flat.specs.Faults.{erasuresSlice};
 ghost use Rattle.card.specs.Reports.{faultReport};
 ghost use Rattle.text.specs.Answers.{textAnswer, textBuffer};
 ghost use Rattle.render.specs.Printed.{printed};
-
 use card::CardFault;
 use erasures::Listed;
 use text::Text;
