@@ -6,6 +6,7 @@ codes of some 12 disks at the most.
 
     reference.py CARD          the text that the listing program prints for the card in the file CARD
     reference.py --write DIR   writes DIR/NAME.txt for each DIR/NAME.card
+    reference.py --count CARD  how many minimal erasures the card has, by a rank for each data word; for any card
 """
 import pathlib
 import sys
@@ -74,7 +75,36 @@ def listing(card):
     return "".join(line + "\n" for line in lines)
 
 
+def rank(rows):
+    """The rank of rows of bits, by elimination."""
+    pivots = []
+    for row in rows:
+        for p in pivots:
+            row = min(row, row ^ p)
+        if row:
+            pivots.append(row)
+    return len(pivots)
+
+
+def count(card):
+    """A codeword is minimal where the data words that are 0 outside it are only its own and 0: where the generator's rows,
+    cut down to the disks outside, have rank k - 1."""
+    k, cols = card[0], columns(card)
+    rows = [1 << i | sum(1 << k + j for j, c in enumerate(cols) if c >> i & 1) for i in range(k)]
+    total = 0
+    for x in range(1, 2**k):
+        word = 0
+        for i in range(k):
+            if x >> i & 1:
+                word ^= rows[i]
+        total += rank(r & ~word for r in rows) == k - 1
+    return total
+
+
 def main(args):
+    if len(args) == 2 and args[0] == "--count":
+        print(count(pathlib.Path(args[1]).read_bytes()))
+        return
     if len(args) == 2 and args[0] == "--write":
         for card in sorted(pathlib.Path(args[1]).glob("*.card")):
             card.with_suffix(".txt").write_text(listing(card.read_bytes()))
@@ -84,4 +114,5 @@ def main(args):
         sys.exit(__doc__)
 
 
-main(sys.argv[1:])
+if __name__ == "__main__":
+    main(sys.argv[1:])

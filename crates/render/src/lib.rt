@@ -7,7 +7,7 @@ ghost use lib.ListN.{length};
 ghost use Rattle.flat.specs.Faults.{erasuresSlice};
 ghost use Rattle.card.specs.Reports.{faultReport};
 ghost use Rattle.text.specs.Answers.{textAnswer, textBuffer};
-ghost use Rattle.render.specs.Printed.{printed};
+ghost use Rattle.render.specs.Printed.{printed, shownPart};
 use card::CardFault;
 use erasures::Listed;
 use text::Text;
@@ -44,5 +44,21 @@ pub fn render(card: &[u8], entries: &mut [u32], out: &mut [u8]) -> Text
             let m = card[1] as usize;
             text::listing(k, m, &entries[..count], &vector[..m], out)
         }
+    }
+}
+
+// The part of the buffer that holds the text that was rendered; an empty part where it was too short.
+pub fn shown(answer: Text, out: &[u8]) -> &[u8]
+    ensures { λ r. ⌜ now r ≡ shownPart answer (now (out .entry)) ⌝ }
+{
+    match answer {
+        Text::Written(length) => {
+            if length <= out.len() {
+                &out[..length]
+            } else {
+                &out[..0]
+            }
+        }
+        Text::Short(_) => &out[..0],
     }
 }

@@ -1,0 +1,157 @@
+-- The value that a report names is below 65536: a column's number, a yes or no, and the count of a list of minimal erasures.
+-- Assumes nothing.
+use mathlib.Core.Path.{_≡_, refl, ap}
+use mathlib.Core.Bool.{Bool, true, false, not, false≢true}
+use mathlib.Core.List.{List, [], _∷_, map}
+use Prim.Native.Nat.{ℕ, zero, suc, _+_, _-_, _^_, _≤_, _<_}
+use native.Mathlib.Omega.{arith}
+use borrow.Author.Tests.{ltb-true, leb-true, leb-false, eqb-true, not-false}
+use lib.Dec.{leb, ltb, eqb}
+use lib.ListN.{length, length-append, length-map}
+use lib.Pow.{pow-mono}
+use Rattle.gf2.specs.If.{if_then_else_}
+use Rattle.gf2.specs.Sets.{size}
+use Rattle.gf2.specs.Span.{select}
+use Rattle.gf2.specs.Within.{within}
+use Rattle.flat.specs.Lists.{range, filter, each, orderedBy}
+use Rattle.flat.specs.Cards.{Code, disks, setOk, countOk, firstBad, codeOf, cardLength}
+use Rattle.flat.specs.Erasures.{fatal, erasures}
+use Rattle.flat.specs.Spans.{rows, selectors, erasuresByWord}
+use Rattle.flat.specs.Faults.{Report, accepted, refused, yesNo, unlessRefused, codeReport, cardReport, withCard, verdictReport, listReport, erasuresReport}
+use Rattle.flat.proofs.Rows.{rows-length}
+use Rattle.flat.proofs.Cards.{count-in}
+use Rattle.flat.proofs.ErasuresListed.{erasures-enumerated}
+use Rattle.lists.proofs.Filters.{filter-length, length-range}
+use Rattle.bridgecrumb.specs.Coded.{value}
+
+-- ---- how long a list of minimal erasures is
+
+-- ordering by a key repeats no entry
+module _ (key : ℕ → ℕ) where
+  split : (a : ℕ) (xs : List ℕ)
+      → length (filter (λ x. eqb (key x) a) xs) + length (filter (λ x. leb (suc a) (key x)) xs) ≤ length (filter (λ x. leb a (key x)) xs)
+  unfolding filter
+  split a [] = omega arith
+  split a (x ∷ xs) = go (eqb (key x) a) (leb (suc a) (key x)) (leb a (key x)) refl refl refl (split a xs)
+    where
+      here : List ℕ
+      here = filter (λ x. eqb (key x) a) xs
+
+      above : List ℕ
+      above = filter (λ x. leb (suc a) (key x)) xs
+
+      from : List ℕ
+      from = filter (λ x. leb a (key x)) xs
+
+      go : (p q r : Bool) → eqb (key x) a ≡ p → leb (suc a) (key x) ≡ q → leb a (key x) ≡ r → length here + length above ≤ length from
+          → length (if p then x ∷ here else here) + length (if q then x ∷ above else above) ≤ length (if r then x ∷ from else from)
+      go true true r e f g h = absurd (omega (arith, eqb-true (key x) a e, leb-true (suc a) (key x) f))
+      go true false true e f g h = omega arith
+      go true false false e f g h = absurd (omega (arith, eqb-true (key x) a e, leb-false a (key x) g))
+      go false true true e f g h = omega arith
+      go false true false e f g h = absurd (omega (arith, leb-true (suc a) (key x) f, leb-false a (key x) g))
+      go false false true e f g h = omega arith
+      go false false false e f g h = omega arith
+
+  from-length : (xs : List ℕ) (n a : ℕ) → length (each (λ v. filter (λ x. eqb (key x) v) xs) (range a n)) ≤ length (filter (λ x. leb a (key x)) xs)
+  unfolding each range
+  from-length xs zero a = omega arith
+  from-length xs (suc n) a =
+      omega (
+        arith,
+        split a xs,
+        from-length xs n (suc a),
+        length-append (filter (λ x. eqb (key x) a) xs) (each (λ v. filter (λ x. eqb (key x) v) xs) (range (suc a) n)),
+      )
+
+  ordered-length : (b : ℕ) (xs : List ℕ) → length (orderedBy key b xs) ≤ length xs
+  unfolding orderedBy
+  ordered-length b xs = omega (arith, from-length xs b 0, filter-length (λ x. leb 0 (key x)) xs)
+
+-- one candidate for each data word but 0
+selectors-length : (bs : List ℕ) → length (selectors bs) ≤ 2 ^ length bs - 1
+unfolding selectors
+selectors-length bs =
+    omega (
+      arith,
+      filter-length (λ x. eqb (length (within (select bs x) bs)) 1) (range 1 (2 ^ length bs - 1)),
+      length-range 1 (2 ^ length bs - 1),
+    )
+
+by-word-length : (C : Code) → length (erasuresByWord C) ≤ 2 ^ length (rows C) - 1
+unfolding erasuresByWord
+by-word-length C =
+    omega (
+      arith,
+      ordered-length size (suc (disks C)) (map (select (rows C)) (selectors (rows C))),
+      length-map (selectors (rows C)) (select (rows C)),
+      selectors-length (rows C),
+    )
+
+pub erasures-length : (C : Code) → length (erasures C) ≤ 2 ^ C .k - 1
+erasures-length C =
+    omega (arith, ap length (erasures-enumerated C), by-word-length C, ap (λ (n : ℕ). 2 ^ n) (rows-length C))
+
+-- ---- the values of reports
+
+pick : (t : Bool) (r s : Report) → (t ≡ true → value r < 65536) → (t ≡ false → value s < 65536) → value (if t then r else s) < 65536
+pick true r s f g = f refl
+pick false r s f g = g refl
+
+code-value : (C : Code) (sized : Bool) (next : Report) → (countOk (C .k) ≡ true → value next < 65536) → value (codeReport C sized next) < 65536
+unfolding codeReport
+code-value C sized next h =
+    pick (not (countOk (C .k))) _ _ (λ _. omega arith)
+    (λ ek. pick (not (countOk (C .m))) _ _ (λ _. omega arith)
+    (λ em. pick (not sized) _ _ (λ _. omega arith)
+    (λ _. pick (ltb (firstBad (C .k) (C .columns)) (C .m)) _ _
+    (λ e. omega (arith, ltb-true (firstBad (C .k) (C .columns)) (C .m) e, count-in (C .m) (not-false (countOk (C .m)) em)))
+    (λ _. h (not-false (countOk (C .k)) ek)))))
+
+card-value : (card : List ℕ) → value (cardReport card) < 65536
+unfolding cardReport
+card-value card =
+    pick (ltb (length card) 2) _ _ (λ _. omega arith)
+    (λ _. code-value (codeOf card) (eqb (length card) (cardLength (codeOf card .m))) (accepted (codeOf card .k ∷ codeOf card .m ∷ [])) (λ e. omega (arith, count-in (codeOf card .k) e)))
+
+-- an accepted card has at most 16 data disks
+accepted-small : (card : List ℕ) → eqb (cardReport card .number) 0 ≡ true → codeOf card .k ≤ 16
+unfolding cardReport codeReport
+accepted-small card e = go (ltb (length card) 2) (not (countOk (codeOf card .k))) refl _ e
+  where
+    go : (a b : Bool) → not (countOk (codeOf card .k)) ≡ b → (rest : Report)
+        → eqb ((if a then refused 1 [] else if b then refused 2 [] else rest) .number) 0 ≡ true → codeOf card .k ≤ 16
+    go true b q rest e = absurd (false≢true e)
+    go false true q rest e = absurd (false≢true e)
+    go false false q rest e = count-in (codeOf card .k) (not-false _ q) .1
+
+with-value : (card : List ℕ) (answer : Code → Report) → (codeOf card .k ≤ 16 → value (answer (codeOf card)) < 65536)
+    → value (withCard card answer) < 65536
+unfolding withCard unlessRefused
+with-value card answer h = pick (eqb (cardReport card .number) 0) _ _ (λ e. h (accepted-small card e)) (λ _. card-value card)
+
+verdict-answer : (C : Code) (S : ℕ) → value (if not (setOk C S) then refused 8 [] else accepted (yesNo (fatal C S) ∷ [])) < 65536
+unfolding yesNo
+verdict-answer C S =
+    pick (not (setOk C S)) (refused 8 []) (accepted (yesNo (fatal C S) ∷ [])) (λ _. omega arith) (λ _. go (fatal C S))
+  where
+    go : (t : Bool) → (if t then 1 else 0) < 65536
+    go true = omega arith
+    go false = omega arith
+
+pub verdict-value : (card : List ℕ) (S : ℕ) → value (verdictReport card S) < 65536
+unfolding verdictReport
+verdict-value card S =
+    with-value card (λ C. if not (setOk C S) then refused 8 [] else accepted (yesNo (fatal C S) ∷ [])) (λ _. verdict-answer (codeOf card) S)
+
+list-answer : (list : List ℕ) (n : ℕ) → length list < 65536 → value (listReport list n) < 65536
+unfolding listReport
+list-answer list n h =
+    pick (ltb n (length list)) (refused 10 (length list ∷ [])) (accepted (length list ∷ [])) (λ _. h) (λ _. h)
+
+pub erasures-value : (card : List ℕ) (n : ℕ) → value (erasuresReport card n) < 65536
+unfolding erasuresReport
+erasures-value card n =
+    with-value card (λ C. listReport (erasures C) n)
+    (λ h. list-answer (erasures (codeOf card)) n
+    (omega (arith, erasures-length (codeOf card), pow-mono {i = codeOf card .k} {j = 16} h)))

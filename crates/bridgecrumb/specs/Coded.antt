@@ -1,0 +1,12 @@
+-- A report as one number, for a caller in C: the report's number, and 256 times its value.
+-- Assumes nothing.
+use Prim.Native.Nat.{ℕ, _+_, _*_}
+use lib.ListN.{getD}
+use Rattle.flat.specs.Faults.{Report}
+
+-- the value that the report names, 0 where it names none
+abbrev pub value : Report → ℕ
+value r = getD (r .values) 0 0
+
+abbrev pub coded : Report → ℕ
+coded r = r .number + 256 * value r

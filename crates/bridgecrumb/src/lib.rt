@@ -1,0 +1,79 @@
+// The static library for C and Rust: the verdict call and the lister, exported.
+//
+// An answer is one number: the report's number, 0 where the call is accepted, and 256 times the value
+// that the report names, if it names one. A slice is passed as a pointer and a count. Every byte
+// string, set and slice is a legal argument.
+ghost use mathlib.Core.Path.{_≡_};
+ghost use Prim.Native.Nat.{_+_, _*_, _<_};
+ghost use lib.ListN.{length};
+ghost use Rattle.flat.specs.Faults.{unlessRefused, verdictReport, erasuresReport, erasuresVector, erasuresSlice};
+ghost use Rattle.card.specs.Reports.{faultReport};
+ghost use Rattle.erasures.specs.Reports.{verdictReport as setReport};
+ghost use Rattle.bridgecrumb.specs.Coded.{value, coded};
+use card::CardFault;
+use erasures::Listed;
+use erasures::SetVerdict;
+
+// A report's number and its value as one number.
+fn joined(number: u64, value: usize) -> u64
+    requires { ⌜ (number < 256) × (value < 65536) ⌝ }
+    ensures { λ r. ⌜ r ≡ number + 256 * value ⌝ }
+{
+    number + 256 * (value as u64)
+}
+
+// A card's fault.
+fn fault_code(fault: CardFault) -> u64
+    requires { ⌜ value (faultReport fault) < 65536 ⌝ }
+    ensures { λ r. ⌜ r ≡ coded (faultReport fault) ⌝ }
+{
+    match fault {
+        CardFault::Short => 1,
+        CardFault::DataCount => 2,
+        CardFault::ParityCount => 3,
+        CardFault::Length => 4,
+        CardFault::Column(j) => joined(5, j),
+    }
+}
+
+// The verdict call's answer.
+fn verdict_code(verdict: SetVerdict) -> u64
+    requires { ⌜ value (setReport verdict) < 65536 ⌝ }
+    ensures { λ r. ⌜ r ≡ coded (setReport verdict) ⌝ }
+{
+    match verdict {
+        SetVerdict::Fatal => joined(0, 1),
+        SetVerdict::Recoverable => joined(0, 0),
+        SetVerdict::Card(fault) => fault_code(fault),
+        SetVerdict::OutsideSet => 8,
+    }
+}
+
+// The verdict call: whether the loss of the set is fatal.
+#[no_mangle]
+pub extern "C" fn bridgecrumb_verdict(card: &[u8], set: u32) -> u64
+    ensures { λ r. ⌜ r ≡ coded (verdictReport (now (card .entry)) set) ⌝ }
+{
+    verdict_code(erasures::verdict(card, set))
+}
+
+// The lister: all minimal erasures into the slice, smaller size first, then smaller data part, and how
+// many of them hold i disks into place i - 1 of the vector. A refused call writes nothing.
+#[no_mangle]
+pub extern "C" fn bridgecrumb_list(card: &[u8], out: &mut [u32], vector: &mut [usize; 17]) -> u64
+    ensures { λ r. ⌜ r ≡ coded (erasuresReport (now (card .entry)) (length (now (out .entry)))) ⌝ }
+    ensures { λ _. ⌜ now (out .exit) ≡ erasuresSlice (now (card .entry)) (now (out .entry)) ⌝ }
+    ensures { λ _. ⌜ now (vector .exit) ≡ unlessRefused (erasuresReport (now (card .entry)) (length (now (out .entry)))) (erasuresVector (now (card .entry)) (length (now (out .entry)))) (now (vector .entry)) ⌝ }
+{
+    let listing = erasures::list(card, out);
+    let answer = listing.answer;
+    let counts = listing.vector;
+    match answer {
+        Listed::Count(count) => {
+            *vector = counts;
+            joined(0, count)
+        }
+        Listed::Card(fault) => fault_code(fault),
+        Listed::Short(count) => joined(10, count),
+    }
+}
