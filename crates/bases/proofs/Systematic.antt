@@ -2,10 +2,12 @@
 -- Assumes nothing.
 use mathlib.Core.Path.{_≡_, refl, sym, ap, _∙_, subst}
 use mathlib.Core.Logic.{_≢_}
-use Prim.Native.Nat.{ℕ, _+_, _^_, _<_}
+use mathlib.Core.List.{List}
+use Prim.Native.Nat.{ℕ, _+_, _^_, _≤_, _<_}
+use native.Mathlib.Omega.{arith}
 use borrow.Author.Tests.{eq-eqb, ne-eqb}
 use lib.Dec.{eqb}
-use lib.ListN.{length, getD}
+use lib.ListN.{length, getD, take}
 use Rattle.gf2.specs.If.{if_then_else_}
 use Rattle.gf2.specs.Sets.{bit}
 use Rattle.flat.specs.Lists.{tabulate}
@@ -39,3 +41,12 @@ rows-systematic C = table-systematic (disks C) (C .k) (row C) (λ i. i) (row-dat
 pub checks-systematic : (C : Code) → Systematic (disks C) (checks C)
 unfolding checks
 checks-systematic C = table-systematic (disks C) (C .m) (check C) (λ i. C .k + i) (check-parity C) (check-lt C)
+
+-- ---- what is taken of a basis whose first c rows are known, and that it can be marked
+
+module _ (c count : ℕ) (bs out : List ℕ) (e : count ≡ c) (f : take c out ≡ bs) where
+  pub taken : take count out ≡ bs
+  taken = ap (λ (n : ℕ). take n out) e ∙ f
+
+  pub markable : (n : ℕ) → c ≤ 16 → n ≤ 32 → n ≤ c + 16 → Systematic n bs → (count ≤ 16) × (n ≤ 32) × (n + 1 ≤ count + 17) × Systematic n (take count out)
+  markable n hc hn h s = (omega arith, hn, omega arith, subst (Systematic n) (sym taken) s)

@@ -1,17 +1,15 @@
 -- The list of minimal erasures and its vector, as the enumeration over the rows gives them.
 -- Assumes nothing.
 use mathlib.Core.Path.{_≡_, refl, sym, ap, _∙_, subst}
-use mathlib.Core.Logic.{_⊎_, inl, inr, ⊎-elim}
 use mathlib.Core.List.{List, [], _∷_, map}
 use Prim.Native.Nat.{ℕ, zero, suc, _+_, _-_, _^_, _≤_, _<_}
-use native.Mathlib.Nat.{le-of-lt, add-comm}
+use native.Mathlib.Nat.{add-comm}
 use native.Mathlib.Omega.{arith}
 use lib.Dec.{T, eqb}
 use lib.ListN.{length, getD}
 use Rattle.gf2.specs.Sets.{size, _∖_, _⊆_}
 use Rattle.gf2.specs.Span.{InSpan, select}
 use Rattle.gf2.specs.Within.{within}
-use Rattle.gf2.proofs.Tests.{below-or}
 use Rattle.gf2.proofs.Subsets.{zero-⊆, ∖-zero}
 use Rattle.gf2.proofs.Sizes.{size-lt}
 use Rattle.flat.specs.Lists.{range, tabulate, filter, orderedBy}
@@ -26,7 +24,7 @@ use Rattle.flat.proofs.Members.{In, map-out}
 use Rattle.flat.proofs.ErasuresListed.{erasures-enumerated}
 use Rattle.words.specs.Listed.{kept, entry, keptFrom, entries, listed, tally}
 use Rattle.lists.proofs.Filters.{filter-cong, map-cong}
-use Rattle.lists.proofs.Blocks.{ordered-bound, ordered-count}
+use Rattle.lists.proofs.Blocks.{ordered-same, ordered-count}
 use Rattle.lists.proofs.Entries.{kept-inside, entries-small}
 use Rattle.bases.proofs.Systematic.{rows-systematic}
 
@@ -62,10 +60,7 @@ module _ (C : Code) where
     pub listed-erasures : listed (rows C) 0 18 ≡ erasures C
     unfolding listed erasuresByWord
     listed-erasures =
-        ⊎-elim
-        (λ l. ordered-bound size (entries (rows C) 0) (suc (disks C)) 18 entries-fit (le-of-lt l))
-        (λ l. sym (ordered-bound size (entries (rows C) 0) 18 (suc (disks C)) entries-below l))
-        (below-or (suc (disks C)) 18)
+        ordered-same size (entries (rows C) 0) 18 (suc (disks C)) entries-below entries-fit
         ∙ ap (orderedBy size (suc (disks C))) entries-rows ∙ sym (erasures-enumerated C)
 
     -- the count of size i + 1 is the tally's

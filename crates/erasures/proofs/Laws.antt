@@ -1,12 +1,11 @@
 -- Laws that the functions' proofs cite: what is left inside a set decides, and the reports of the verdict.
 -- Assumes nothing.
-use mathlib.Core.Path.{_≡_, refl, sym, ap, ap₂, _∙_, subst}
+use mathlib.Core.Path.{_≡_, refl, sym, ap, ap₂, _∙_}
 use mathlib.Core.Bool.{Bool, true, false, not}
 use mathlib.Core.Logic.{_≢_}
 use mathlib.Core.List.{List, [], _∷_}
 use Prim.Native.Nat.{ℕ, _+_, _^_, _≤_, _<_}
 use native.Mathlib.Omega.{arith}
-use borrow.Author.Tests.{lt-ltb, le-ltb}
 use lib.Dec.{eqb, ltb}
 use lib.ListN.{length, take, drop}
 use Rattle.gf2.specs.If.{if_then_else_}
@@ -14,11 +13,11 @@ use Rattle.gf2.specs.Within.{within}
 use Rattle.gf2.proofs.Tests.{T-ext, neqb-in, neqb-out}
 use Rattle.flat.specs.Cards.{Code, code, disks, setOk, columnsIn}
 use Rattle.flat.specs.Erasures.{fatal}
-use Rattle.flat.specs.Faults.{Report, accepted, refused, yesNo, cardReport, verdictReport, listReport}
+use Rattle.flat.specs.Faults.{Report, accepted, refused, yesNo, cardReport, verdictReport}
 use Rattle.flat.specs.Spans.{rows}
 use Rattle.flat.proofs.Fatal.{fatal-left}
 use Rattle.words.specs.Systematic.{Systematic}
-use Rattle.bases.proofs.Systematic.{rows-systematic}
+use Rattle.bases.proofs.Systematic.{rows-systematic, taken, markable}
 use Rattle.card.specs.declared.CardFault.{CardFault}
 use Rattle.card.specs.declared.CardCheck.the-variants.{Bad}
 use Rattle.card.specs.Reports.{faultReport, checkReport}
@@ -52,25 +51,11 @@ verdict-bad card S f e = sym (bad-card card f (λ C. if not (setOk C S) then ref
 module _ (k m count : ℕ) (bs out : List ℕ) where
   -- what is taken of the sixteen rows
   pub taken-rows : count ≡ k → take k out ≡ rows (code k m bs) → take count out ≡ rows (code k m bs)
-  taken-rows e f = ap (λ (n : ℕ). take n out) e ∙ f
+  taken-rows e f = taken k count (rows (code k m bs)) out e f
 
   -- they can be marked
   pub rows-markable : k ≤ 16 → m ≤ 16 → count ≡ k → take k out ≡ rows (code k m bs)
       → (count ≤ 16) × (k + m ≤ 32) × (k + m + 1 ≤ count + 17) × Systematic (k + m) (take count out)
   unfolding disks
-  rows-markable hk hm e f = (
-    omega arith,
-    omega arith,
-    omega arith,
-    subst (Systematic (k + m)) (sym (taken-rows e f)) (rows-systematic (code k m bs)),
-  )
-
--- ---- the report of a list
-
-pub list-short : (list : List ℕ) (n count : ℕ) → count ≡ length list → n < count → refused 10 (count ∷ []) ≡ listReport list n
-unfolding listReport
-list-short list n count e l = let h : n < length list = omega arith in rw (e, lt-ltb n (length list) h)
-
-pub list-fits : (list : List ℕ) (n count : ℕ) → count ≡ length list → count ≤ n → accepted (count ∷ []) ≡ listReport list n
-unfolding listReport
-list-fits list n count e l = let h : length list ≤ n = omega arith in rw (e, le-ltb n (length list) h)
+  rows-markable hk hm e f =
+      markable k count (rows (code k m bs)) out e f (k + m) hk (omega arith) (omega arith) (rows-systematic (code k m bs))

@@ -1,14 +1,17 @@
--- What an accepted report tells of the tests that led to it, and what carries a card's refusal.
+-- What an accepted report tells of the tests that led to it, what carries a card's refusal, and the report of a list.
 -- Assumes nothing.
 use mathlib.Core.Path.{_≡_, refl, sym, ap, _∙_}
 use mathlib.Core.Bool.{Bool, true, false}
-use mathlib.Core.List.{List}
-use Prim.Native.Nat.{ℕ, zero, suc}
+use mathlib.Core.List.{List, [], _∷_}
+use Prim.Native.Nat.{ℕ, zero, suc, _≤_, _<_}
 use native.Mathlib.Omega.{arith}
-use lib.Dec.{eqb, eqb·suc-zero}
+use borrow.Author.Tests.{lt-ltb, le-ltb}
+use lib.Dec.{eqb, ltb, eqb·suc-zero}
+use lib.ListN.{length, getD, take, drop}
+use lib.Seq.{take-at}
 use Rattle.gf2.specs.If.{if_then_else_}
 use Rattle.flat.specs.Cards.{Code, codeOf}
-use Rattle.flat.specs.Faults.{Report, accepted, refused, unlessRefused, cardReport, withCard}
+use Rattle.flat.specs.Faults.{Report, accepted, refused, unlessRefused, cardReport, withCard, listReport, listSlice}
 
 -- where a test refuses and the whole accepts, the test did not hold, and the rest accepts
 pub passed : (b : Bool) (n : ℕ) (vs ws : List ℕ) (rest : Report) → (if b then refused (suc n) vs else rest) ≡ accepted ws
@@ -51,3 +54,20 @@ with-out card ws f e = go (cardReport card .number) refl e
     go (suc n) q h =
         let g : cardReport card ≡ accepted ws = rw (eqb·suc-zero n) at h in
         absurd (let z : suc n ≡ 0 = sym q ∙ ap (λ (r : Report). r .number) g in omega arith)
+
+-- ---- the report of a list
+
+pub list-short : (list : List ℕ) (n count : ℕ) → count ≡ length list → n < count → refused 10 (count ∷ []) ≡ listReport list n
+unfolding listReport
+list-short list n count e l = let h : n < length list = omega arith in rw (e, lt-ltb n (length list) h)
+
+pub list-fits : (list : List ℕ) (n count : ℕ) → count ≡ length list → count ≤ n → accepted (count ∷ []) ≡ listReport list n
+unfolding listReport
+list-fits list n count e l = let h : length list ≤ n = omega arith in rw (e, le-ltb n (length list) h)
+
+-- an accepted call wrote the list
+pub list-written : (list slice : List ℕ) (count : ℕ) → listReport list (length slice) ≡ accepted (count ∷ []) → take count (listSlice list slice) ≡ list
+unfolding listReport listSlice
+list-written list slice count e =
+    let p = passed (ltb (length slice) (length list)) 9 (length list ∷ []) (count ∷ []) (accepted (length list ∷ [])) e in
+    take-at list (drop (length list) slice) count (ap (λ (x : Report). getD (x .values) 0 0) (p .1))

@@ -91,6 +91,9 @@ minimal-sizes C w = (
 pub verdict-listed : Theorems.VerdictListed
 verdict-listed = verdicts.verdict-listed
 
+pub equation-listed : Theorems.EquationListed
+equation-listed = verdicts.equation-listed
+
 pub no-list-for-all : Theorems.NoListForAll
 no-list-for-all = worked.no-list-for-all
 

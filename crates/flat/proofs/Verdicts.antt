@@ -1,24 +1,28 @@
--- The verdict call and the lister share one verdict, stated over their reports and the slice at exit.
+-- The verdict call, the lister and the equation call share one verdict, stated over their reports and the slices at exit.
 -- Assumes nothing.
 use mathlib.Core.Path.{_≡_, refl, sym, ap, ap₂, _∙_, subst}
 use mathlib.Core.Bool.{Bool, true, false, not}
 use mathlib.Core.Logic.{_↔_}
 use mathlib.Core.List.{List, [], _∷_, _++_}
-use Prim.Native.Nat.{ℕ, _≤_}
+use Prim.Native.Nat.{ℕ, _<_}
+use native.Mathlib.Nat.{lt-of-le-of-lt}
 use native.Mathlib.Omega.{arith}
-use borrow.Author.Tests.{ltb-false}
 use lib.Dec.{T, ltb}
-use lib.ListN.{length, getD, take, drop}
-use lib.Seq.{take-at}
+use lib.ListN.{length, getD, take}
 use Rattle.gf2.specs.If.{if_then_else_}
-use Rattle.gf2.specs.Sets.{_⊆_}
-use Rattle.gf2.proofs.Tests.{T-true}
+use Rattle.gf2.specs.Sets.{has, _⊆_}
+use Rattle.gf2.proofs.Tests.{T-true, true-T, ltb-out}
+use Rattle.gf2.proofs.Subsets.{⊆-trans, ⊆-le}
 use Rattle.flat.specs.Lists.{member}
-use Rattle.flat.specs.Cards.{Code, codeOf, setOk}
-use Rattle.flat.specs.Erasures.{fatal, erasures}
-use Rattle.flat.specs.Faults.{Report, accepted, refused, yesNo, cardReport, verdictReport, listReport, listSlice, erasuresReport, erasuresSlice}
-use Rattle.flat.specs.Theorems.{VerdictListed}
-use Rattle.flat.proofs.Reports.{passed, unless-accepted, with-accepted}
+use Rattle.flat.specs.Cards.{Code, codeOf, disks, setOk}
+use Rattle.flat.specs.Erasures.{survivors, fatal, erasures}
+use Rattle.flat.specs.Equations.{equation, equations}
+use Rattle.flat.specs.Faults.{Report, accepted, refused, yesNo, cardReport, verdictReport, listReport, listSlice, erasuresReport, erasuresSlice, equationsReport, equationsSlice}
+use Rattle.flat.specs.Theorems.{VerdictListed, EquationListed}
+use Rattle.flat.proofs.Reports.{passed, unless-accepted, with-accepted, list-written}
+use Rattle.flat.proofs.Quantifiers.{set-lt}
+use Rattle.flat.proofs.CheckWords.{minimal-equation}
+use Rattle.flat.proofs.EquationsListed as equated
 use Rattle.flat.proofs.ErasuresListed.{fatal-listed}
 
 -- yes is 1
@@ -26,6 +30,10 @@ yes-no : (b : Bool) → (accepted (yesNo b ∷ []) ≡ accepted (1 ∷ [])) ↔ 
 unfolding yesNo
 yes-no true = (λ e. tt, λ t. refl)
 yes-no false = (λ e. absurd (let z : _≡_ {A = ℕ} 0 1 = ap (λ (r : Report). getD (r .values) 0 0) e in omega arith), λ t. absurd t)
+
+not-false : (b : Bool) → not b ≡ false → T b
+not-false true e = tt
+not-false false e = true-T (sym e)
 
 module _ (card : List ℕ) (k m : ℕ) (ok : cardReport card ≡ accepted (k ∷ m ∷ [])) where
   abbrev C : Code
@@ -37,38 +45,52 @@ module _ (card : List ℕ) (k m : ℕ) (ok : cardReport card ≡ accepted (k ∷
       with-accepted card (k ∷ m ∷ []) (λ D. if not (setOk D S) then refused 8 [] else accepted (yesNo (fatal D S) ∷ [])) ok
       ∙ ap (λ (b : Bool). if not b then refused 8 [] else accepted (yesNo (fatal C S) ∷ [])) (T-true {b = setOk C S} t)
 
-  -- an accepted call writes the list, and its count is the list's
-  pub record Written (slice : List ℕ) (count : ℕ) : Type 0 where
-    pub counted : length (erasures C) ≡ count
-    pub fits : count ≤ length slice
-    pub written : erasuresSlice card slice ≡ listSlice (erasures C) slice
-
-  pub list-written : (slice : List ℕ) (count : ℕ) → erasuresReport card (length slice) ≡ accepted (count ∷ []) → Written slice count
-  unfolding erasuresReport erasuresSlice listReport
-  list-written slice count e =
-      let r : listReport (erasures C) (length slice) ≡ accepted (count ∷ []) =
-      sym (with-accepted card (k ∷ m ∷ []) (λ D. listReport (erasures D) (length slice)) ok) ∙ e in
-      let p = passed (ltb (length slice) (length (erasures C))) 9 (length (erasures C) ∷ []) (count ∷ []) (accepted (length (erasures C) ∷ [])) r in
-      let n : length (erasures C) ≡ count = ap (λ (x : Report). getD (x .values) 0 0) (p .1) in
-      record {
-        counted = n;
-        fits = omega (arith, ltb-false (length slice) (length (erasures C)) (p .0));
-        written = unless-accepted (erasuresReport card (length slice)) (count ∷ []) (listSlice (erasures C) slice) slice e;
-      }
-
-  pub entries-written : (slice : List ℕ) (count : ℕ) → erasuresReport card (length slice) ≡ accepted (count ∷ [])
+  -- what the lister writes, and what the equation call writes
+  pub erasures-written : (slice : List ℕ) (count : ℕ) → erasuresReport card (length slice) ≡ accepted (count ∷ [])
       → take count (erasuresSlice card slice) ≡ erasures C
-  unfolding listSlice
-  entries-written slice count e =
-      let w = list-written slice count e in
-      ap (take count) (w .written) ∙ take-at (erasures C) (drop (length (erasures C)) slice) count (w .counted)
+  unfolding erasuresReport erasuresSlice
+  erasures-written slice count e =
+      ap (take count) (unless-accepted (erasuresReport card (length slice)) (count ∷ []) (listSlice (erasures C) slice) slice e)
+      ∙ list-written (erasures C) slice count (sym (with-accepted card (k ∷ m ∷ []) (λ D. listReport (erasures D) (length slice)) ok) ∙ e)
+
+  -- the equation call accepts only a disk of the code
+  equations-accepted : (d n count : ℕ) → equationsReport card d n ≡ accepted (count ∷ [])
+      → T (ltb d (disks C)) × (listReport (equations C d) n ≡ accepted (count ∷ []))
+  unfolding equationsReport
+  equations-accepted d n count e =
+      let p =
+      passed (not (ltb d (disks C))) 8 [] (count ∷ []) (listReport (equations C d) n)
+      (sym (with-accepted card (k ∷ m ∷ []) (λ D. if not (ltb d (disks D)) then refused 9 [] else listReport (equations D d) n) ok) ∙ e) in
+      (not-false (ltb d (disks C)) (p .0), p .1)
+
+  pub equations-written : (d : ℕ) (slice : List ℕ) (count : ℕ) → equationsReport card d (length slice) ≡ accepted (count ∷ [])
+      → (d < disks C) × (take count (equationsSlice card d slice) ≡ equations C d)
+  unfolding equationsSlice
+  equations-written d slice count e =
+      let p = equations-accepted d (length slice) count e in (
+        ltb-out d (disks C) (p .0),
+        ap (take count) (unless-accepted (equationsReport card d (length slice)) (count ∷ []) (listSlice (equations C d) slice) slice e)
+            ∙ list-written (equations C d) slice count (p .1),
+      )
 
 pub verdict-listed : VerdictListed
 verdict-listed card slice S k m count ok t e =
     let v = verdict-is card k m ok S t in
-    let w = entries-written card k m ok slice count e in
+    let w = erasures-written card k m ok slice count e in
     let f = fatal-listed (codeOf card) S in
     let y = yes-no (fatal (codeOf card) S) in (
       λ q. let r = f .0 (y .0 (sym v ∙ q)) in (r .0, subst (λ (l : List ℕ). T (member (r .0) l)) (sym w) (r .1), r .2),
       λ r. v ∙ y .1 (f .1 (r .0, subst (λ (l : List ℕ). T (member (r .0) l)) w (r .1), r .2)),
+    )
+
+pub equation-listed : EquationListed
+unfolding survivors
+equation-listed card slice S d k m count ok e =
+    let C = codeOf card in
+    let a = equations-written card k m ok d slice count e in
+    let w = a .1 in (
+      λ r. let l = lt-of-le-of-lt (⊆-le (r .0) (survivors C S) (r .1)) (set-lt (disks C) (λ i. not (has S i))) in
+          let f = equated.equation-listed C d (r .0) l (r .2) in
+          (f .0, subst (λ (l : List ℕ). T (member (f .0) l)) (sym w) (f .1), ⊆-trans (f .0) (r .0) (survivors C S) (f .2) (r .1)),
+      λ r. (r .0, r .2, minimal-equation C d (a .0) (r .0) (equated.equations-out C d (r .0) (subst (λ (l : List ℕ). T (member (r .0) l)) w (r .1)) .1)),
     )

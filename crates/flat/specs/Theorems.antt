@@ -13,7 +13,7 @@ use Rattle.flat.specs.Lists.{Bytes, member, padded, orderedBy}
 use Rattle.flat.specs.Cards.{Code, code, codeOf, disks, setOk, dataPart}
 use Rattle.flat.specs.Erasures.{holdsBit, survivors, fatal, minimalErasure, erasures}
 use Rattle.flat.specs.Equations.{equation, minimalEquation, equations}
-use Rattle.flat.specs.Faults.{accepted, cardReport, cardColumns, cardWriteReport, cardWriteBuffer, verdictReport, erasuresReport, erasuresSlice}
+use Rattle.flat.specs.Faults.{accepted, cardReport, cardColumns, cardWriteReport, cardWriteBuffer, verdictReport, erasuresReport, erasuresSlice, equationsReport, equationsSlice}
 use Rattle.flat.specs.Worked.{C1}
 use Rattle.flat.specs.Spans.{codeword, rows, checks, undetermined, erasuresByWord, equationsByParities}
 
@@ -142,7 +142,7 @@ MinimalSizes =
     → (InSpan (rows C) w → length (within w (rows C)) ≡ 1 → size w ≤ C .m + 1)
     × (InSpan (checks C) w → length (within w (checks C)) ≡ 1 → size w ≤ C .k + 1)
 
--- ---- verdict and list share one verdict
+-- ---- verdict, list and equations share one verdict
 
 -- For an accepted card and a set of its disks, the verdict is yes exactly where the set contains one of the count entries that the
 -- lister writes, into any slice that it accepts.
@@ -151,6 +151,15 @@ VerdictListed =
     (card slice : List ℕ) (S k m count : ℕ) → cardReport card ≡ accepted (k ∷ m ∷ []) → T (setOk (codeOf card) S)
     → erasuresReport card (length slice) ≡ accepted (count ∷ [])
     → (verdictReport card S ≡ accepted (1 ∷ [])) ↔ ((R : ℕ) × T (member R (take count (erasuresSlice card slice))) × T (R ⊆ S))
+
+-- For an accepted card and a set of lost disks, a disk has an equation among the survivors exactly where one of the count entries that
+-- the equation call writes for it lies among them, into any slice that it accepts.
+abbrev pub EquationListed : Type 0
+EquationListed =
+    (card slice : List ℕ) (S d k m count : ℕ) → cardReport card ≡ accepted (k ∷ m ∷ [])
+    → equationsReport card d (length slice) ≡ accepted (count ∷ [])
+    → ((E : ℕ) × T (E ⊆ survivors (codeOf card) S) × T (equation (codeOf card) d E))
+    ↔ ((E : ℕ) × T (member E (take count (equationsSlice card d slice))) × T (E ⊆ survivors (codeOf card) S))
 
 -- ---- impostors that no edit of the code can show
 

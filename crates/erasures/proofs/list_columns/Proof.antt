@@ -13,12 +13,13 @@ use Rattle.flat.specs.Erasures.{erasures}
 use Rattle.flat.specs.Faults.{unlessRefused, listSlice}
 use Rattle.flat.specs.Spans.{rows}
 use Rattle.flat.proofs.Rows.{rows-length}
+use Rattle.flat.proofs.Reports.{list-short, list-fits}
 use Rattle.words.specs.Listed.{listed, tally}
 use Rattle.lists.specs.Marks.{noMarks}
 use Rattle.lists.specs.Sizes.{sum}
 use Rattle.lists.proofs.Passes.{tally-small, tally-total}
 use Rattle.erasures.proofs.Enumerated.{listed-erasures, vector-tally}
-use Rattle.erasures.proofs.Laws.{taken-rows, rows-markable, list-short, list-fits}
+use Rattle.erasures.proofs.Laws.{taken-rows, rows-markable}
 use Rattle.erasures.proofs.list_columns.Statement.{statement}
 use Rattle.erasures.proofs.list_columns.Tie as tie
 

@@ -1,0 +1,75 @@
+-- Laws that the functions' proofs cite: the checks can be marked, and the call's report and slice by what the card check found.
+-- Assumes nothing.
+use mathlib.Core.Path.{_≡_, refl, sym, ap, ap₂, _∙_}
+use mathlib.Core.Bool.{Bool, not}
+use mathlib.Core.List.{List, []}
+use Prim.Native.Nat.{ℕ, _+_, _≤_, _<_}
+use native.Mathlib.Omega.{arith}
+use borrow.Author.Tests.{lt-ltb, le-ltb}
+use lib.Dec.{ltb}
+use lib.ListN.{length, take, drop}
+use Rattle.gf2.specs.If.{if_then_else_}
+use Rattle.flat.specs.Cards.{Code, code, codeOf, columnsIn, disks}
+use Rattle.flat.specs.Equations.{equations}
+use Rattle.flat.specs.Faults.{Report, refused, unlessRefused, cardReport, listReport, listSlice, equationsReport, equationsSlice}
+use Rattle.flat.specs.Spans.{checks}
+use Rattle.flat.proofs.Reports.{unless-refused}
+use Rattle.words.specs.Systematic.{Systematic}
+use Rattle.bases.proofs.Systematic.{checks-systematic, markable}
+use Rattle.card.specs.declared.CardFault.{CardFault}
+use Rattle.card.specs.declared.CardCheck.the-variants.{Bad}
+use Rattle.card.specs.Reports.{faultReport, checkReport}
+use Rattle.card.proofs.Laws.{unless-fault}
+use Rattle.card.proofs.Callers.{GoodCard, good-with, bad-card}
+
+pub checks-markable : (k m count : ℕ) (bs out : List ℕ) → k ≤ 16 → m ≤ 16 → count ≡ m → take m out ≡ checks (code k m bs)
+    → (count ≤ 16) × (k + m ≤ 32) × (k + m + 1 ≤ count + 17) × Systematic (k + m) (take count out)
+unfolding disks
+checks-markable k m count bs out hk hm e f =
+    markable m count (checks (code k m bs)) out e f (k + m) hm (omega arith) (omega arith) (checks-systematic (code k m bs))
+
+-- the answer on a code
+abbrev answer : ℕ → ℕ → Code → Report
+answer d n C = if not (ltb d (disks C)) then refused 9 [] else listReport (equations C d) n
+
+module _ (card : List ℕ) (d : ℕ) (f : CardFault) (bad : checkReport (Bad f) ≡ cardReport card) where
+  pub bad-report : (n : ℕ) → faultReport f ≡ equationsReport card d n
+  unfolding equationsReport
+  bad-report n = sym (bad-card card f (answer d n) bad)
+
+  pub bad-slice : (slice : List ℕ) → slice ≡ equationsSlice card d slice
+  unfolding equationsSlice
+  bad-slice slice =
+      sym (unless-fault f (equationsReport card d (length slice)) (listSlice (equations (codeOf card) d) slice) slice (bad-report (length slice)))
+
+module _ (card : List ℕ) (d k m : ℕ) (g : GoodCard card k m) where
+  abbrev C : Code
+  C = code k m (columnsIn m (drop 2 card))
+
+  -- a disk that the code lacks
+  module _ (l : k + m ≤ d) where
+    pub outside-report : (n : ℕ) → refused 9 [] ≡ equationsReport card d n
+    unfolding equationsReport disks
+    outside-report n =
+        sym
+        (good-with card k m (answer d n) g
+        ∙ ap (λ (b : Bool). if not b then refused 9 [] else listReport (equations C d) n) (le-ltb d (k + m) l))
+
+    pub outside-slice : (slice : List ℕ) → slice ≡ equationsSlice card d slice
+    unfolding equationsSlice
+    outside-slice slice =
+        sym
+        (unless-refused (equationsReport card d (length slice)) 8 [] (listSlice (equations (codeOf card) d) slice) slice
+        (sym (outside-report (length slice))))
+
+  pub good-report : (n : ℕ) → d < k + m → listReport (equations C d) n ≡ equationsReport card d n
+  unfolding equationsReport disks
+  good-report n l =
+      sym
+      (good-with card k m (answer d n) g
+      ∙ ap (λ (b : Bool). if not b then refused 9 [] else listReport (equations C d) n) (lt-ltb d (k + m) l))
+
+  pub good-slice : (slice : List ℕ) (r : Report) → r ≡ equationsReport card d (length slice)
+      → unlessRefused r (listSlice (equations C d) slice) slice ≡ equationsSlice card d slice
+  unfolding equationsSlice
+  good-slice slice r e = ap₂ (λ (x : Report) (D : Code). unlessRefused x (listSlice (equations D d) slice) slice) e (sym (g .is))
