@@ -21,4 +21,9 @@ uint64_t bridgecrumb_verdict(const uint8_t *card, size_t card_len, uint32_t set)
  * how many hold i disks. The value is the count; number 10 has the count that is needed. */
 uint64_t bridgecrumb_list(const uint8_t *card, size_t card_len, uint32_t *out, size_t out_len, size_t vector[17]);
 
+/* All equations of the disk that have no smaller one inside into `out`, each as the set of disks whose
+ * XOR gives it, smaller size first, then smaller set number. The value is the count; number 9 is a
+ * disk that the code lacks; number 10 has the count that is needed. */
+uint64_t bridgecrumb_equations(const uint8_t *card, size_t card_len, size_t disk, uint32_t *out, size_t out_len);
+
 #endif

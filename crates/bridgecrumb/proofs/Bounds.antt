@@ -1,4 +1,4 @@
--- The value that a report names is below 65536: a column's number, a yes or no, and the count of a list of minimal erasures.
+-- The value that a report names is below 65536: a column's number, a yes or no, and the count of a list.
 -- Assumes nothing.
 use mathlib.Core.Path.{_≡_, refl, ap}
 use mathlib.Core.Bool.{Bool, true, false, not, false≢true}
@@ -10,21 +10,23 @@ use lib.Dec.{leb, ltb, eqb}
 use lib.ListN.{length, length-append, length-map}
 use lib.Pow.{pow-mono}
 use Rattle.gf2.specs.If.{if_then_else_}
-use Rattle.gf2.specs.Sets.{size}
+use Rattle.gf2.specs.Sets.{has, size, _∖_}
 use Rattle.gf2.specs.Span.{select}
 use Rattle.gf2.specs.Within.{within}
 use Rattle.flat.specs.Lists.{range, filter, each, orderedBy}
 use Rattle.flat.specs.Cards.{Code, disks, setOk, countOk, firstBad, codeOf, cardLength}
 use Rattle.flat.specs.Erasures.{fatal, erasures}
-use Rattle.flat.specs.Spans.{rows, selectors, erasuresByWord}
-use Rattle.flat.specs.Faults.{Report, accepted, refused, yesNo, unlessRefused, codeReport, cardReport, withCard, verdictReport, listReport, erasuresReport}
-use Rattle.flat.proofs.Rows.{rows-length}
+use Rattle.flat.specs.Equations.{equations}
+use Rattle.flat.specs.Spans.{rows, checks, selectors, erasuresByWord, equationsByParities}
+use Rattle.flat.specs.Faults.{Report, accepted, refused, yesNo, unlessRefused, codeReport, cardReport, withCard, verdictReport, listReport, erasuresReport, equationsReport}
+use Rattle.flat.proofs.Rows.{rows-length, checks-length}
 use Rattle.flat.proofs.Cards.{count-in}
 use Rattle.flat.proofs.ErasuresListed.{erasures-enumerated}
+use Rattle.flat.proofs.EquationsListed.{equations-enumerated}
 use Rattle.lists.proofs.Filters.{filter-length, length-range}
 use Rattle.bridgecrumb.specs.Coded.{value}
 
--- ---- how long a list of minimal erasures is
+-- ---- how long a list is
 
 -- ordering by a key repeats no entry
 module _ (key : ℕ → ℕ) where
@@ -92,6 +94,22 @@ pub erasures-length : (C : Code) → length (erasures C) ≤ 2 ^ C .k - 1
 erasures-length C =
     omega (arith, ap length (erasures-enumerated C), by-word-length C, ap (λ (n : ℕ). 2 ^ n) (rows-length C))
 
+by-parities-length : (C : Code) (d : ℕ) → length (equationsByParities C d) ≤ 2 ^ length (checks C) - 1
+unfolding equationsByParities
+by-parities-length C d =
+    let holding = filter (λ p. has (select (checks C) p) d) (selectors (checks C)) in
+    omega (
+      arith,
+      ordered-length size (suc (disks C)) (map (λ p. select (checks C) p ∖ 2 ^ d) holding),
+      length-map holding (λ p. select (checks C) p ∖ 2 ^ d),
+      filter-length (λ p. has (select (checks C) p) d) (selectors (checks C)),
+      selectors-length (checks C),
+    )
+
+pub equations-length : (C : Code) (d : ℕ) → d < disks C → length (equations C d) ≤ 2 ^ C .m - 1
+equations-length C d l =
+    omega (arith, ap length (equations-enumerated C d l), by-parities-length C d, ap (λ (n : ℕ). 2 ^ n) (checks-length C))
+
 -- ---- the values of reports
 
 pick : (t : Bool) (r s : Report) → (t ≡ true → value r < 65536) → (t ≡ false → value s < 65536) → value (if t then r else s) < 65536
@@ -114,18 +132,21 @@ card-value card =
     pick (ltb (length card) 2) _ _ (λ _. omega arith)
     (λ _. code-value (codeOf card) (eqb (length card) (cardLength (codeOf card .m))) (accepted (codeOf card .k ∷ codeOf card .m ∷ [])) (λ e. omega (arith, count-in (codeOf card .k) e)))
 
--- an accepted card has at most 16 data disks
-accepted-small : (card : List ℕ) → eqb (cardReport card .number) 0 ≡ true → codeOf card .k ≤ 16
+-- an accepted card has at most 16 data disks and 16 parity disks
+accepted-small : (card : List ℕ) → eqb (cardReport card .number) 0 ≡ true → (codeOf card .k ≤ 16) × (codeOf card .m ≤ 16)
 unfolding cardReport codeReport
-accepted-small card e = go (ltb (length card) 2) (not (countOk (codeOf card .k))) refl _ e
+accepted-small card e = go (ltb (length card) 2) (not (countOk (codeOf card .k))) (not (countOk (codeOf card .m))) refl refl _ e
   where
-    go : (a b : Bool) → not (countOk (codeOf card .k)) ≡ b → (rest : Report)
-        → eqb ((if a then refused 1 [] else if b then refused 2 [] else rest) .number) 0 ≡ true → codeOf card .k ≤ 16
-    go true b q rest e = absurd (false≢true e)
-    go false true q rest e = absurd (false≢true e)
-    go false false q rest e = count-in (codeOf card .k) (not-false _ q) .1
+    go : (a b c : Bool) → not (countOk (codeOf card .k)) ≡ b → not (countOk (codeOf card .m)) ≡ c → (rest : Report)
+        → eqb ((if a then refused 1 [] else if b then refused 2 [] else if c then refused 3 [] else rest) .number) 0 ≡ true
+        → (codeOf card .k ≤ 16) × (codeOf card .m ≤ 16)
+    go true b c p q rest e = absurd (false≢true e)
+    go false true c p q rest e = absurd (false≢true e)
+    go false false true p q rest e = absurd (false≢true e)
+    go false false false p q rest e = (count-in (codeOf card .k) (not-false _ p) .1, count-in (codeOf card .m) (not-false _ q) .1)
 
-with-value : (card : List ℕ) (answer : Code → Report) → (codeOf card .k ≤ 16 → value (answer (codeOf card)) < 65536)
+with-value : (card : List ℕ) (answer : Code → Report)
+    → ((codeOf card .k ≤ 16) × (codeOf card .m ≤ 16) → value (answer (codeOf card)) < 65536)
     → value (withCard card answer) < 65536
 unfolding withCard unlessRefused
 with-value card answer h = pick (eqb (cardReport card .number) 0) _ _ (λ e. h (accepted-small card e)) (λ _. card-value card)
@@ -154,4 +175,15 @@ unfolding erasuresReport
 erasures-value card n =
     with-value card (λ C. listReport (erasures C) n)
     (λ h. list-answer (erasures (codeOf card)) n
-    (omega (arith, erasures-length (codeOf card), pow-mono {i = codeOf card .k} {j = 16} h)))
+    (omega (arith, erasures-length (codeOf card), pow-mono {i = codeOf card .k} {j = 16} (h .0))))
+
+equations-answer : (C : Code) (d n : ℕ) → C .m ≤ 16 → value (if not (ltb d (disks C)) then refused 9 [] else listReport (equations C d) n) < 65536
+equations-answer C d n h =
+    pick (not (ltb d (disks C))) (refused 9 []) (listReport (equations C d) n) (λ _. omega arith)
+    (λ e. list-answer (equations C d) n
+    (omega (arith, equations-length C d (ltb-true d (disks C) (not-false (ltb d (disks C)) e)), pow-mono {i = C .m} {j = 16} h)))
+
+pub equations-value : (card : List ℕ) (d n : ℕ) → value (equationsReport card d n) < 65536
+unfolding equationsReport
+equations-value card d n =
+    with-value card (λ C. if not (ltb d (disks C)) then refused 9 [] else listReport (equations C d) n) (λ h. equations-answer (codeOf card) d n (h .1))

@@ -1,4 +1,4 @@
-// The static library for C and Rust: the verdict call and the lister, exported.
+// The static library for C and Rust: the verdict call, the lister and the equation call, exported.
 //
 // An answer is one number: the report's number, 0 where the call is accepted, and 256 times the value
 // that the report names, if it names one. A slice is passed as a pointer and a count. Every byte
@@ -6,11 +6,13 @@
 ghost use mathlib.Core.Path.{_≡_};
 ghost use Prim.Native.Nat.{_+_, _*_, _<_};
 ghost use lib.ListN.{length};
-ghost use Rattle.flat.specs.Faults.{unlessRefused, verdictReport, erasuresReport, erasuresVector, erasuresSlice};
+ghost use Rattle.flat.specs.Faults.{unlessRefused, verdictReport, erasuresReport, erasuresVector, erasuresSlice, equationsReport, equationsSlice};
 ghost use Rattle.card.specs.Reports.{faultReport};
 ghost use Rattle.erasures.specs.Reports.{verdictReport as setReport};
+ghost use Rattle.equations.specs.Reports.{toldReport};
 ghost use Rattle.bridgecrumb.specs.Coded.{value, coded};
 use card::CardFault;
+use equations::Told;
 use erasures::Listed;
 use erasures::SetVerdict;
 
@@ -49,6 +51,19 @@ fn verdict_code(verdict: SetVerdict) -> u64
     }
 }
 
+// The equation call's answer.
+fn told_code(told: Told) -> u64
+    requires { ⌜ value (toldReport told) < 65536 ⌝ }
+    ensures { λ r. ⌜ r ≡ coded (toldReport told) ⌝ }
+{
+    match told {
+        Told::Count(count) => joined(0, count),
+        Told::Card(fault) => fault_code(fault),
+        Told::NoDisk => 9,
+        Told::Short(count) => joined(10, count),
+    }
+}
+
 // The verdict call: whether the loss of the set is fatal.
 #[no_mangle]
 pub extern "C" fn bridgecrumb_verdict(card: &[u8], set: u32) -> u64
@@ -76,4 +91,14 @@ pub extern "C" fn bridgecrumb_list(card: &[u8], out: &mut [u32], vector: &mut [u
         Listed::Card(fault) => fault_code(fault),
         Listed::Short(count) => joined(10, count),
     }
+}
+
+// The equation call: the equations of the disk into the slice, smaller size first, then smaller set
+// number. A refused call writes nothing.
+#[no_mangle]
+pub extern "C" fn bridgecrumb_equations(card: &[u8], disk: usize, out: &mut [u32]) -> u64
+    ensures { λ r. ⌜ r ≡ coded (equationsReport (now (card .entry)) disk (length (now (out .entry)))) ⌝ }
+    ensures { λ _. ⌜ now (out .exit) ≡ equationsSlice (now (card .entry)) disk (now (out .entry)) ⌝ }
+{
+    told_code(equations::list(card, disk, out))
 }

@@ -99,3 +99,6 @@ no-list-for-all = worked.no-list-for-all
 
 pub rows-are-not-all : Theorems.RowsAreNotAll
 rows-are-not-all = worked.rows-are-not-all
+
+pub order-not-turned : Theorems.OrderNotTurned
+order-not-turned = worked.order-not-turned

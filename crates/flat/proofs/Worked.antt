@@ -1,9 +1,10 @@
 -- The worked codes of document 01: antt computes the definitions at the table's constants.
 -- Assumes nothing.
 use mathlib.Core.Path.{_≡_, refl, sym, ap, _∙_}
+use mathlib.Core.List.{List, reverse}
 use Prim.Native.Nat.{ℕ, suc}
 use native.Mathlib.Omega.{arith}
-use lib.ListN.{length}
+use lib.ListN.{length, getD}
 use Rattle.gf2.specs.Sets.{size}
 use Rattle.flat.specs.Lists.{member, orderedBy}
 use Rattle.flat.specs.Cards.{cardBytes, disks}
@@ -11,8 +12,8 @@ use Rattle.flat.specs.Erasures.{fatal, erasures, vector}
 use Rattle.flat.specs.Equations.{equations}
 use Rattle.flat.specs.Faults.{cardReport, encodeStripe, erasuresReport, rebuildReport}
 use Rattle.flat.specs.Spans.{rows}
-use Rattle.flat.specs.Worked.{Worked, C1, C3, C4}
-use Rattle.flat.specs.Theorems.{NoListForAll, RowsAreNotAll}
+use Rattle.flat.specs.Worked.{Worked, C1, C2, C3, C4}
+use Rattle.flat.specs.Theorems.{NoListForAll, RowsAreNotAll, OrderNotTurned}
 
 pub worked : Worked
 unfolding erasures vector fatal member equations cardBytes encodeStripe rebuildReport cardReport erasuresReport
@@ -43,3 +44,8 @@ four-rows = refl
 
 pub rows-are-not-all : RowsAreNotAll
 rows-are-not-all e = absurd (let z : _≡_ {A = ℕ} 14 4 = sym (ap length (worked .c1 .0 .0)) ∙ ap length e ∙ four-rows in omega arith)
+
+pub order-not-turned : OrderNotTurned
+order-not-turned e =
+    let f : C2 ≡ reverse C2 = sym (worked .c2) ∙ e ∙ ap reverse (worked .c2) in
+    absurd (let z : _≡_ {A = ℕ} 22 112 = ap (λ (l : List ℕ). getD l 0 0) f in omega arith)

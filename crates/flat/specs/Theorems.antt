@@ -2,7 +2,7 @@
 -- Assumes nothing.
 use mathlib.Core.Path.{_≡_}
 use mathlib.Core.Logic.{_⊎_, _≢_, _↔_}
-use mathlib.Core.List.{List, [], _∷_}
+use mathlib.Core.List.{List, [], _∷_, reverse}
 use Prim.Native.Nat.{ℕ, suc, _+_, _^_, _≤_, _<_}
 use lib.Dec.{T}
 use lib.ListN.{length, getD, take}
@@ -170,3 +170,7 @@ NoListForAll = (list : List ℕ) → ((C : Code) → erasures C ≡ list) → �
 -- The single rows are not the list: C1 has more.
 abbrev pub RowsAreNotAll : Type 0
 RowsAreNotAll = erasures (C1 .of) ≢ orderedBy size (suc (disks (C1 .of))) (rows (C1 .of))
+
+-- Larger parity part first is not the order: the equations of C1's disk 0 have three disks each, and the list turned round is another.
+abbrev pub OrderNotTurned : Type 0
+OrderNotTurned = equations (C1 .of) 0 ≢ reverse (equations (C1 .of) 0)
