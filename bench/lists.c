@@ -1,9 +1,5 @@
-/* The lister beside a plain C program: both lists are compared entry by entry, both are timed on the
- * same cards in this process, and the stack that bridgecrumb_list uses is measured.
- *
- * The peer goes by the textbook: for each data word its codeword w, then the rank of the k generator
- * rows on the disks outside w by Gaussian elimination. w is minimal where that rank is k - 1. The
- * words that are kept are counted by size, then put in order: size, then data word.
+/* The lister and the equation call beside a plain C program (peer.h): both lists are compared entry by entry,
+ * both are timed on the same cards in this process, and the stack that the calls use is measured.
  */
 #include <pthread.h>
 #include <stdio.h>
@@ -12,69 +8,10 @@
 #include <time.h>
 
 #include "bridgecrumb.h"
+#include "peer.h"
 
-#define ENTRIES 65536
 #define BEST_OF 40
 #define STACK_LIMIT (64 * 1024)
-
-/* ---- the peer */
-
-static int rank_of(const uint32_t *rows, int k, int n, uint32_t keep)
-{
-    uint32_t a[16];
-    int rank = 0;
-    for (int i = 0; i < k; i++)
-        a[i] = rows[i] & keep;
-    for (int d = 0; d < n && rank < k; d++) {
-        int pivot = rank;
-        while (pivot < k && !(a[pivot] >> d & 1))
-            pivot++;
-        if (pivot == k)
-            continue;
-        uint32_t row = a[pivot];
-        a[pivot] = a[rank];
-        a[rank] = row;
-        for (int i = rank + 1; i < k; i++)
-            if (a[i] >> d & 1)
-                a[i] ^= row;
-        rank++;
-    }
-    return rank;
-}
-
-static size_t peer_list(const uint8_t *card, uint32_t *out, size_t *vector)
-{
-    static uint32_t kept[ENTRIES];
-    int k = card[0], m = card[1], n = k + m;
-    uint32_t all = (uint32_t)(((uint64_t)1 << n) - 1);
-    uint32_t rows[16];
-    size_t counts[33] = {0}, at[33], count = 0;
-    for (int i = 0; i < k; i++) {
-        rows[i] = (uint32_t)1 << i;
-        for (int j = 0; j < m; j++) {
-            uint32_t column = card[2 + 2 * j] + 256u * card[3 + 2 * j];
-            rows[i] |= (column >> i & 1) << (k + j);
-        }
-    }
-    for (uint32_t x = 1; x < (uint32_t)1 << k; x++) {
-        uint32_t w = 0;
-        for (int i = 0; i < k; i++)
-            if (x >> i & 1)
-                w ^= rows[i];
-        if (rank_of(rows, k, n, all & ~w) == k - 1) {
-            kept[count++] = w;
-            counts[__builtin_popcount(w)]++;
-        }
-    }
-    at[0] = 0;
-    for (int s = 1; s <= n; s++)
-        at[s] = at[s - 1] + counts[s - 1];
-    for (size_t e = 0; e < count; e++)
-        out[at[__builtin_popcount(kept[e])]++] = kept[e];
-    for (int i = 0; i < 17; i++)
-        vector[i] = i < m ? counts[i + 1] : 0;
-    return count;
-}
 
 /* ---- the cards */
 
@@ -134,35 +71,71 @@ static void stop(const char *what)
 
 static uint32_t peers[ENTRIES], engines[ENTRIES];
 
-static double compare(const char *name, const uint8_t *card)
+/* times of one run, and the least of all runs so far */
+struct times {
+    double peer, engine;
+};
+
+static void keep_least(struct times *least, double start, double middle, double end)
+{
+    if (middle - start < least->peer)
+        least->peer = middle - start;
+    if (end - middle < least->engine)
+        least->engine = end - middle;
+}
+
+/* both wrote the same, past the count too */
+static void same_lists(uint64_t answer, size_t count)
+{
+    if (BRIDGECRUMB_NUMBER(answer) != 0 || BRIDGECRUMB_VALUE(answer) != count)
+        stop("the counts differ");
+    for (size_t e = 0; e < ENTRIES; e++)
+        if (peers[e] != engines[e])
+            stop("the lists differ");
+}
+
+static double print_row(const char *name, const uint8_t *card, size_t count, struct times t)
+{
+    printf("%-14s %3d %3d %8zu %10.3f %10.3f %8.2f\n", name, card[0], card[1], count, t.peer, t.engine, t.peer / t.engine);
+    fflush(stdout);
+    return t.peer / t.engine;
+}
+
+static double compare_lists(const char *name, const uint8_t *card)
 {
     size_t length = 2 + 2 * (size_t)card[1], peers_vector[17], engines_vector[17], count = 0;
-    uint64_t answer = 0;
-    double peer = 1e9, engine = 1e9;
+    struct times least = {1e9, 1e9};
     for (int run = 0; run < BEST_OF; run++) {
         memset(peers, 0xff, sizeof peers);
         memset(engines, 0xff, sizeof engines);
-        double a = now_ms();
+        double start = now_ms();
         count = peer_list(card, peers, peers_vector);
-        double b = now_ms();
-        answer = bridgecrumb_list(card, length, engines, ENTRIES, engines_vector);
-        double c = now_ms();
-        if (b - a < peer)
-            peer = b - a;
-        if (c - b < engine)
-            engine = c - b;
-        if (BRIDGECRUMB_NUMBER(answer) != 0 || BRIDGECRUMB_VALUE(answer) != count)
-            stop("the counts differ");
-        for (size_t e = 0; e < ENTRIES; e++)
-            if (peers[e] != engines[e])
-                stop("the lists differ");
+        double middle = now_ms();
+        uint64_t answer = bridgecrumb_list(card, length, engines, ENTRIES, engines_vector);
+        keep_least(&least, start, middle, now_ms());
+        same_lists(answer, count);
         for (int i = 0; i < 17; i++)
             if (peers_vector[i] != engines_vector[i])
                 stop("the vectors differ");
     }
-    printf("%-8s %3d %3d %8zu %10.3f %10.3f %8.2f\n", name, card[0], card[1], count, peer, engine, peer / engine);
-    fflush(stdout);
-    return peer / engine;
+    return print_row(name, card, count, least);
+}
+
+static double compare_equations(const char *name, const uint8_t *card, int disk)
+{
+    size_t length = 2 + 2 * (size_t)card[1], count = 0;
+    struct times least = {1e9, 1e9};
+    for (int run = 0; run < BEST_OF; run++) {
+        memset(peers, 0xff, sizeof peers);
+        memset(engines, 0xff, sizeof engines);
+        double start = now_ms();
+        count = peer_equations(card, disk, peers);
+        double middle = now_ms();
+        uint64_t answer = bridgecrumb_equations(card, length, disk, engines, ENTRIES);
+        keep_least(&least, start, middle, now_ms());
+        same_lists(answer, count);
+    }
+    return print_row(name, card, count, least);
 }
 
 /* a refused call answers its number and writes nothing; a verdict agrees with the list */
@@ -186,6 +159,8 @@ static void check_answers(const uint8_t *card)
     put_column(bad, 3, 0);
     if (bridgecrumb_list(bad, length, out, 1, vector) != 5 + 256 * 3 || bridgecrumb_verdict(bad, length, 0) != 5 + 256 * 3)
         stop("an empty column is not named");
+    if (bridgecrumb_equations(card, length, card[0] + card[1], out, 1) != 9 || out[0] != 7)
+        stop("a disk that the code lacks is not refused by 9");
     if (bridgecrumb_verdict(card, length, engines[0]) != 256)
         stop("an entry is not fatal");
     if (bridgecrumb_verdict(card, length, engines[0] & (engines[0] - 1)) != 0)
@@ -213,6 +188,13 @@ static void *call_list(void *used)
     return NULL;
 }
 
+static void *call_equations(void *used)
+{
+    bridgecrumb_equations(stack_card, 2 + 2 * (size_t)stack_card[1], 0, engines, ENTRIES);
+    *(size_t *)used = used_below(__builtin_frame_address(0));
+    return NULL;
+}
+
 static void *call_verdict(void *used)
 {
     bridgecrumb_verdict(stack_card, 2 + 2 * (size_t)stack_card[1], 0xffff);
@@ -234,11 +216,15 @@ static size_t stack_of(void *(*call)(void *), const uint8_t *card)
     return used;
 }
 
+static double least_of(double a, double b)
+{
+    return a < b ? a : b;
+}
+
 int main(void)
 {
     static uint8_t cards[7][34];
-    const char *names[7] = {"dense", "dense", "dense", "dense", "dense", "dense", "chain"};
-    double least = 1e9;
+    double lists = 1e9, equations = 1e9;
     dense(cards[0], 16, 16);
     dense(cards[1], 16, 16);
     dense(cards[2], 16, 16);
@@ -246,18 +232,24 @@ int main(void)
     dense(cards[4], 12, 4);
     dense(cards[5], 8, 8);
     chain(cards[6], 16);
-    printf("%-8s %3s %3s %8s %10s %10s %8s\n", "card", "k", "m", "entries", "peer ms", "engine ms", "ratio");
+    printf("%-14s %3s %3s %8s %10s %10s %8s\n", "list, card", "k", "m", "entries", "peer ms", "engine ms", "ratio");
     for (int c = 0; c < 7; c++) {
-        double ratio = compare(names[c], cards[c]);
-        if (c < 3 && ratio < least)
-            least = ratio;
+        double ratio = compare_lists(c < 6 ? "dense" : "chain", cards[c]);
+        if (c < 3)
+            lists = least_of(lists, ratio);
     }
+    printf("%-14s %3s %3s %8s %10s %10s %8s\n", "equations of", "k", "m", "entries", "peer ms", "engine ms", "ratio");
+    for (int c = 0; c < 3; c++) {
+        equations = least_of(equations, compare_equations("dense, data", cards[c], 0));
+        equations = least_of(equations, compare_equations("dense, parity", cards[c], 31));
+    }
+    compare_equations("chain, data", cards[6], 0);
     printf("best of %d runs each; every run's lists and vectors are equal\n", BEST_OF);
-    printf("dense k = m = 16: the engine is at least %.2f times as fast as the peer\n", least);
+    printf("dense k = m = 16: the lister is at least %.2f times as fast as the peer, the equation call %.2f times\n", lists, equations);
     check_answers(cards[0]);
-    size_t list = stack_of(call_list, cards[0]), verdict = stack_of(call_verdict, cards[0]);
-    printf("stack: bridgecrumb_list %zu bytes, bridgecrumb_verdict %zu bytes\n", list, verdict);
-    if (list >= STACK_LIMIT)
-        stop("bridgecrumb_list uses 64 KiB of stack or more");
+    size_t list = stack_of(call_list, cards[0]), told = stack_of(call_equations, cards[0]), verdict = stack_of(call_verdict, cards[0]);
+    printf("stack: bridgecrumb_list %zu bytes, bridgecrumb_equations %zu bytes, bridgecrumb_verdict %zu bytes\n", list, told, verdict);
+    if (list >= STACK_LIMIT || told >= STACK_LIMIT)
+        stop("a call uses 64 KiB of stack or more");
     return 0;
 }
