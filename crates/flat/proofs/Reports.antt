@@ -5,7 +5,7 @@ use mathlib.Core.Bool.{Bool, true, false}
 use mathlib.Core.List.{List, [], _∷_}
 use Prim.Native.Nat.{ℕ, zero, suc, _≤_, _<_}
 use native.Mathlib.Omega.{arith}
-use borrow.Author.Tests.{lt-ltb, le-ltb}
+use borrow.Author.Tests.{lt-ltb, le-ltb, ltb-false}
 use lib.Dec.{eqb, ltb, eqb·suc-zero}
 use lib.ListN.{length, getD, take, drop}
 use lib.Seq.{take-at}
@@ -65,9 +65,14 @@ pub list-fits : (list : List ℕ) (n count : ℕ) → count ≡ length list → 
 unfolding listReport
 list-fits list n count e l = let h : length list ≤ n = omega arith in rw (e, le-ltb n (length list) h)
 
--- an accepted call wrote the list
+-- an accepted call's count is the list's, which fits, and so the list was written
+pub list-counted : (list : List ℕ) (n count : ℕ) → listReport list n ≡ accepted (count ∷ []) → (length list ≡ count) × (count ≤ n)
+unfolding listReport
+list-counted list n count e =
+    let p = passed (ltb n (length list)) 9 (length list ∷ []) (count ∷ []) (accepted (length list ∷ [])) e in
+    let c : length list ≡ count = ap (λ (x : Report). getD (x .values) 0 0) (p .1) in
+    (c, omega (arith, ltb-false n (length list) (p .0)))
+
 pub list-written : (list slice : List ℕ) (count : ℕ) → listReport list (length slice) ≡ accepted (count ∷ []) → take count (listSlice list slice) ≡ list
-unfolding listReport listSlice
-list-written list slice count e =
-    let p = passed (ltb (length slice) (length list)) 9 (length list ∷ []) (count ∷ []) (accepted (length list ∷ [])) e in
-    take-at list (drop (length list) slice) count (ap (λ (x : Report). getD (x .values) 0 0) (p .1))
+unfolding listSlice
+list-written list slice count e = take-at list (drop (length list) slice) count (list-counted list (length slice) count e .0)

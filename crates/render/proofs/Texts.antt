@@ -10,9 +10,9 @@ use Rattle.flat.specs.Cards.{Code, codeOf, cardLength}
 use Rattle.flat.specs.Erasures.{erasures, vector}
 use Rattle.flat.specs.Faults.{Report, accepted, refused, unlessRefused, cardReport, listReport, listSlice, erasuresReport, erasuresVector, erasuresSlice}
 use Rattle.flat.proofs.Lists.{take-padded}
-use Rattle.flat.proofs.Reports.{unless-accepted, unless-refused, with-out}
+use Rattle.flat.proofs.Reports.{unless-accepted, unless-refused, with-out, list-counted}
 use Rattle.flat.proofs.Cards.{Accepted, accepted-card, card-accepted, count-in}
-use Rattle.flat.proofs.Verdicts.{Written, list-written, entries-written}
+use Rattle.flat.proofs.Verdicts.{erasures-written}
 use Rattle.card.specs.declared.CardFault.{CardFault}
 use Rattle.card.specs.Reports.{faultReport}
 use Rattle.card.proofs.Laws.{unless-fault}
@@ -37,9 +37,15 @@ module _ (card slice : List ℕ) (count : ℕ) (e : accepted (count ∷ []) ≡ 
   abbrev C : Code
   C = codeOf card
 
-  ok : cardReport card ≡ accepted (C .k ∷ C .m ∷ [])
+  by-card : (cardReport card .number ≡ 0) × (listReport (erasures C) (length slice) ≡ accepted (count ∷ []))
   unfolding erasuresReport
-  ok = card-accepted card (with-out card (count ∷ []) (λ D. listReport (erasures D) (length slice)) (sym e) .0)
+  by-card = with-out card (count ∷ []) (λ D. listReport (erasures D) (length slice)) (sym e)
+
+  ok : cardReport card ≡ accepted (C .k ∷ C .m ∷ [])
+  ok = card-accepted card (by-card .0)
+
+  counted : (length (erasures C) ≡ count) × (count ≤ length slice)
+  counted = list-counted (erasures C) (length slice) count (by-card .1)
 
   good : Accepted card (C .k) (C .m)
   good = accepted-card card (C .k) (C .m) ok
@@ -52,18 +58,17 @@ module _ (card slice : List ℕ) (count : ℕ) (e : accepted (count ∷ []) ≡ 
   parities = count-in (C .m) (good .sound .m-ok) .1
 
   pub entries-are : take count (erasuresSlice card slice) ≡ erasures C
-  entries-are = entries-written card (C .k) (C .m) ok slice count (sym e)
+  entries-are = erasures-written card (C .k) (C .m) ok slice count (sym e)
 
   -- the entries are a part of the slice at exit
   pub room : (l : List ℕ) → l ≡ erasuresSlice card slice → count ≤ length l
-  unfolding listSlice
+  unfolding erasuresSlice listSlice
   room l q =
-      let w = list-written card (C .k) (C .m) ok slice count (sym e) in
-      let n = ap length (q ∙ w .written) in
-      omega (arith, n, w .counted, length-append (erasures C) (drop (length (erasures C)) slice))
+      let w = unless-accepted (erasuresReport card (length slice)) (count ∷ []) (listSlice (erasures C) slice) slice (sym e) in
+      omega (arith, ap length (q ∙ w), counted .0, length-append (erasures C) (drop (length (erasures C)) slice))
 
   pub fits : count ≤ length slice
-  fits = list-written card (C .k) (C .m) ok slice count (sym e) .fits
+  fits = counted .1
 
   pub vector-is : (v : List ℕ) → v ≡ erasuresVector card (length slice) → take (C .m) v ≡ vector C
   unfolding erasuresVector
