@@ -94,6 +94,9 @@ verdict-listed = verdicts.verdict-listed
 pub equation-listed : Theorems.EquationListed
 equation-listed = verdicts.equation-listed
 
+pub long-slices-accepted : Theorems.LongSlicesAccepted
+long-slices-accepted = verdicts.long-slices-accepted
+
 pub no-list-for-all : Theorems.NoListForAll
 no-list-for-all = worked.no-list-for-all
 

@@ -7,6 +7,7 @@ use mathlib.Core.List.{List, [], _∷_, _++_}
 use Prim.Native.Nat.{ℕ, _<_}
 use native.Mathlib.Nat.{lt-of-le-of-lt}
 use native.Mathlib.Omega.{arith}
+use borrow.Author.Tests.{lt-ltb}
 use lib.Dec.{T, ltb}
 use lib.ListN.{length, getD, take}
 use Rattle.gf2.specs.If.{if_then_else_}
@@ -18,8 +19,8 @@ use Rattle.flat.specs.Cards.{Code, codeOf, disks, setOk}
 use Rattle.flat.specs.Erasures.{survivors, fatal, erasures}
 use Rattle.flat.specs.Equations.{equation, equations}
 use Rattle.flat.specs.Faults.{Report, accepted, refused, yesNo, cardReport, verdictReport, listReport, listSlice, erasuresReport, erasuresSlice, equationsReport, equationsSlice}
-use Rattle.flat.specs.Theorems.{VerdictListed, EquationListed}
-use Rattle.flat.proofs.Reports.{passed, unless-accepted, with-accepted, list-written}
+use Rattle.flat.specs.Theorems.{VerdictListed, EquationListed, LongSlicesAccepted}
+use Rattle.flat.proofs.Reports.{passed, unless-accepted, with-accepted, list-fits, list-written}
 use Rattle.flat.proofs.Quantifiers.{set-lt}
 use Rattle.flat.proofs.CheckWords.{minimal-equation}
 use Rattle.flat.proofs.EquationsListed as equated
@@ -93,4 +94,14 @@ equation-listed card slice S d k m count ok e =
           let f = equated.equation-listed C d (r .0) l (r .2) in
           (f .0, subst (λ (l : List ℕ). T (member (f .0) l)) (sym w) (f .1), ⊆-trans (f .0) (r .0) (survivors C S) (f .2) (r .1)),
       λ r. (r .0, r .2, minimal-equation C d (a .0) (r .0) (equated.equations-out C d (r .0) (subst (λ (l : List ℕ). T (member (r .0) l)) w (r .1)) .1)),
+    )
+
+pub long-slices-accepted : LongSlicesAccepted
+unfolding erasuresReport equationsReport
+long-slices-accepted card n d k m ok =
+    let C = codeOf card in (
+      λ l. with-accepted card (k ∷ m ∷ []) (λ D. listReport (erasures D) n) ok ∙ sym (list-fits (erasures C) n (length (erasures C)) refl l),
+      λ h l. with-accepted card (k ∷ m ∷ []) (λ D. if not (ltb d (disks D)) then refused 9 [] else listReport (equations D d) n) ok
+          ∙ ap (λ (b : Bool). if not b then refused 9 [] else listReport (equations C d) n) (lt-ltb d (disks C) h)
+          ∙ sym (list-fits (equations C d) n (length (equations C d)) refl l),
     )

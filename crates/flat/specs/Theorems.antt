@@ -161,6 +161,15 @@ EquationListed =
     → ((E : ℕ) × T (E ⊆ survivors (codeOf card) S) × T (equation (codeOf card) d E))
     ↔ ((E : ℕ) × T (member E (take count (equationsSlice card d slice))) × T (E ⊆ survivors (codeOf card) S))
 
+-- Every slice at least as long as the list is accepted, and the count is the list's length.
+abbrev pub LongSlicesAccepted : Type 0
+LongSlicesAccepted =
+    (card : List ℕ) (n d k m : ℕ) → cardReport card ≡ accepted (k ∷ m ∷ [])
+    → let es = erasures (codeOf card) in
+    let qs = equations (codeOf card) d in
+    (length es ≤ n → erasuresReport card n ≡ accepted (length es ∷ []))
+    × (d < disks (codeOf card) → length qs ≤ n → equationsReport card d n ≡ accepted (length qs ∷ []))
+
 -- ---- impostors that no edit of the code can show
 
 -- No list is that of every code.
