@@ -9,4 +9,7 @@ pub mod Records
 pub mod Faults
 pub mod Worked
 pub mod Spans
+pub mod Repairs
 pub mod Theorems
+pub mod Rebuilt
+pub mod Demand3

@@ -1,0 +1,54 @@
+-- Strips computed from other strips: what encoder and rebuilder do, and how the rebuilder decides. Nobody has to believe these: the
+-- theorems of Rebuilt say that they are document 01's encoding and rebuilding, and no public contract names them.
+-- Assumes nothing.
+use mathlib.Core.Bool.{Bool, true, not, _&&_}
+use mathlib.Core.List.{List, [], _∷_}
+use Prim.Native.Nat.{ℕ, _-_, _/_, _%_, _^_}
+use lib.Dec.{eqb, ltb}
+use lib.ListN.{length, getD}
+use Rattle.gf2.specs.If.{if_then_else_}
+use Rattle.gf2.specs.Sets.{has, _⊕_, _∖_, over}
+use Rattle.gf2.specs.Within.{within}
+use Rattle.flat.specs.Lists.{every, setOf, tabulate}
+use Rattle.flat.specs.Cards.{Code, disks, column}
+use Rattle.flat.specs.Strips.{byteOf}
+use Rattle.flat.specs.Erasures.{survivors}
+use Rattle.flat.specs.Spans.{checks}
+
+-- the stripe in which the strip of each disk d of S becomes the XOR of the strips of the disks of E d below n
+unfoldable pub filled : ℕ → ℕ → (ℕ → ℕ) → ℕ → List ℕ → List ℕ
+unfolding tabulate has over byteOf
+filled n L E S stripe =
+    tabulate (length stripe) (λ p. if has S (p / L) then over n (E (p / L)) (byteOf L stripe (p % L)) else getD stripe p 0)
+
+-- the parity disks
+unfoldable pub parities : Code → ℕ
+unfolding setOf disks
+parities C = setOf (disks C) (λ d. not (ltb d (C .k)))
+
+-- has the XOR of the strips of the disks of E below n no byte but 0?
+unfoldable pub vanishes : ℕ → ℕ → List ℕ → ℕ → Bool
+unfolding every over byteOf
+vanishes n L stripe E = every L (λ t. eqb (over n E (byteOf L stripe t)) 0)
+
+-- is it so of each of some sets?
+unfoldable pub allVanish : ℕ → ℕ → List ℕ → List ℕ → Bool
+unfolding vanishes
+allVanish n L stripe [] = true
+allVanish n L stripe (E ∷ Es) = vanishes n L stripe E && allVanish n L stripe Es
+
+-- is it so of each check word among the survivors of S that `within` leaves?
+unfoldable pub consistent : Code → ℕ → ℕ → List ℕ → Bool
+unfolding allVanish disks within survivors checks
+consistent C L S stripe = allVanish (disks C) L stripe (within (survivors C S) (checks C))
+
+-- the first of some sets that holds disk d, and the empty set where there is none
+unfoldable pub holder : ℕ → List ℕ → ℕ
+unfolding has
+holder d [] = 0
+holder d (w ∷ ws) = if has w d then w else holder d ws
+
+-- an equation among the survivors of S, of disk d of S: a check word with no other disk of S, less d
+unfoldable pub equationAmong : Code → ℕ → ℕ → ℕ
+unfolding holder within survivors checks _⊕_ _∖_
+equationAmong C S d = holder d (within (survivors C S ⊕ 2 ^ d) (checks C)) ∖ 2 ^ d
