@@ -18,11 +18,12 @@ use Rattle.gf2.proofs.Spans.{sum-in}
 use Rattle.gf2.proofs.Sums.{over-⊕, over-only}
 use Rattle.flat.specs.Lists.{some}
 use Rattle.flat.specs.Cards.{Code, disks}
+use Rattle.flat.specs.Strips.{holds}
 use Rattle.flat.specs.Erasures.{holdsBit}
 use Rattle.flat.specs.Equations.{equation, minimalEquation}
 use Rattle.flat.specs.Spans.{checks}
 use Rattle.flat.proofs.Quantifiers.{some-in, some-out}
-use Rattle.flat.proofs.Rows.{checks-span}
+use Rattle.flat.proofs.Rows.{word-sum, checks-span}
 use Rattle.flat.proofs.Duality.{equation-in, equation-out}
 
 module _ (C : Code) (d : ℕ) (l : d < disks C) where
@@ -33,15 +34,15 @@ module _ (C : Code) (d : ℕ) (l : d < disks C) where
       over-only (disks C) (2 ^ d) d f l
       (λ i m. T-ext (λ t. eqb-in (power-out d i t)) (λ t. subst (λ (x : ℕ). T (has (2 ^ d) x)) (sym (eqb-out i d t)) (power-in d)))
 
-  with-sum : (E x : ℕ) → over (disks C) (E ⊕ 2 ^ d) (holdsBit C x) ≡ over (disks C) E (holdsBit C x) ⊕ holdsBit C x d
-  with-sum E x = over-⊕ (disks C) E (2 ^ d) (holdsBit C x) ∙ ap (λ (y : ℕ). over (disks C) E (holdsBit C x) ⊕ y) (one-sum (holdsBit C x))
+  pub with-sum : (E : ℕ) (f : ℕ → ℕ) → over (disks C) (E ⊕ 2 ^ d) f ≡ over (disks C) E f ⊕ f d
+  with-sum E f = over-⊕ (disks C) E (2 ^ d) f ∙ ap (λ (y : ℕ). over (disks C) E f ⊕ y) (one-sum f)
 
   pub equation-word : (E : ℕ) → E < 2 ^ disks C → T (equation C d E) → InSpan (checks C) (E ⊕ 2 ^ d)
   equation-word E h t =
       let e = equation-out C d E t in
       checks-span C (E ⊕ 2 ^ d) .1 (
         ⊕-lt (disks C) E (2 ^ d) h (pow-lt l),
-        λ x m. with-sum E x ∙ ap (λ (y : ℕ). y ⊕ holdsBit C x d) (e .1 x m) ∙ ⊕-self (holdsBit C x d),
+        λ x m. with-sum E (holdsBit C x) ∙ ap (λ (y : ℕ). y ⊕ holdsBit C x d) (e .1 x m) ∙ ⊕-self (holdsBit C x d),
       )
 
   pub word-equation : (w : ℕ) → InSpan (checks C) w → T (has w d) → T (equation C d (w ∖ 2 ^ d))
@@ -50,8 +51,16 @@ module _ (C : Code) (d : ℕ) (l : d < disks C) where
       equation-in C d (w ∖ 2 ^ d) (
         λ t. ∖-out w (2 ^ d) d t .1 (power-in d),
         λ x h. ⊕-cancel (over (disks C) (w ∖ 2 ^ d) (holdsBit C x)) (holdsBit C x d)
-            (sym (with-sum (w ∖ 2 ^ d) x) ∙ ap (λ (y : ℕ). over (disks C) y (holdsBit C x)) (less-back w d m) ∙ z .1 x h),
+            (sym (with-sum (w ∖ 2 ^ d) (holdsBit C x)) ∙ ap (λ (y : ℕ). over (disks C) y (holdsBit C x)) (less-back w d m) ∙ z .1 x h),
       )
+
+  -- where a set with d XORs to 0, the set without d XORs to what d has
+  pub told-sum : (E : ℕ) (f : ℕ → ℕ) → over (disks C) (E ⊕ 2 ^ d) f ≡ 0 → over (disks C) E f ≡ f d
+  told-sum E f e = ⊕-cancel (over (disks C) E f) (f d) (sym (with-sum E f) ∙ e)
+
+  -- of bytes too, an equation tells what its disk holds
+  pub equation-sum : (E : ℕ) → E < 2 ^ disks C → T (equation C d E) → (v : ℕ → ℕ) → over (disks C) E (holds C v) ≡ holds C v d
+  equation-sum E h t v = told-sum E (holds C v) (word-sum C (E ⊕ 2 ^ d) (equation-word E h t) v)
 
   -- a set without d, of the code's disks
   pub less-lt : (w : ℕ) → InSpan (checks C) w → w ∖ 2 ^ d < 2 ^ disks C

@@ -73,13 +73,17 @@ module _ (C : Code) where
   abbrev pub Told : ℕ → ℕ → Type 0
   Told S d = (E : ℕ) × T (E ⊆ survivors C S) × T (equation C d E)
 
-  survivor-out : (S i : ℕ) → T (has (survivors C S) i) → (i < disks C) × (T (has S i) → ⊥)
+  pub survivor-out : (S i : ℕ) → T (has (survivors C S) i) → (i < disks C) × (T (has S i) → ⊥)
   unfolding survivors
   survivor-out S i t = let p = set-out (disks C) (λ j. not (has S j)) i t in (p .0, not-out (has S i) (p .1))
 
-  survivor-in : (S i : ℕ) → i < disks C → (T (has S i) → ⊥) → T (has (survivors C S) i)
+  pub survivor-in : (S i : ℕ) → i < disks C → (T (has S i) → ⊥) → T (has (survivors C S) i)
   unfolding survivors
   survivor-in S i l f = set-in (disks C) (λ j. not (has S j)) i l (not-in (has S i) f)
+
+  pub survivors-lt : (S : ℕ) → survivors C S < 2 ^ disks C
+  unfolding survivors
+  survivors-lt S = set-lt (disks C) (λ j. not (has S j))
 
   -- 0 where S is lost
   left : ℕ → ℕ → ℕ
@@ -155,7 +159,7 @@ module _ (C : Code) where
   unfolding codeword
   disk-below x i t = set-out (disks C) (λ j. eqb (holdsBit C x j) 1) i t .0
 
-  held-fatal : (S d : ℕ) → Held S d → T (fatal C S)
+  pub held-fatal : (S d : ℕ) → Held S d → T (fatal C S)
   held-fatal S d (x, l, t, m) =
       fatal-in C S x l (λ e. not-has (codeword C x) d (ap (λ (y : ℕ). bit (codeword C y) d) e ∙ ap (λ (w : ℕ). bit w d) (codeword-zero C) ∙ bit-of-zero d) m) t
 

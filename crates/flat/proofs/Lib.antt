@@ -15,5 +15,6 @@ pub mod ErasuresListed
 pub mod CheckWords
 pub mod EquationsListed
 pub mod Verdicts
+pub mod Told
 pub mod Worked
 pub mod Theorems

@@ -24,7 +24,7 @@ use Rattle.flat.specs.Erasures.{holdsBit}
 use Rattle.flat.specs.Spans.{codeword, row, rows, check, checks}
 use Rattle.flat.proofs.Lists.{length-tabulate, getD-tabulate}
 use Rattle.flat.proofs.Quantifiers.{set-lt, bit-set, has-set}
-use Rattle.flat.proofs.Words.{holds-parity, word-data, codeword-lt, codeword-bit}
+use Rattle.flat.proofs.Words.{holds-data, holds-parity, word-data, codeword-lt, codeword-bit}
 
 -- ---- tables of rows
 
@@ -159,31 +159,34 @@ module _ (C : Code) where
   select-checks-lt p =
       subst (λ (w : ℕ). w < 2 ^ disks C) (sym (select-tabulate (C .m) p (check C))) (over-lt (disks C) (C .m) p (check C) (λ j l t. check-lt j))
 
-  -- the bits of a check XOR to 0
-  check-zero : (x j : ℕ) → j < C .m → over (disks C) (check C j) (holdsBit C x) ≡ 0
-  unfolding disks inCheck holdsBit
-  check-zero x j l =
-      over-append (C .k) (C .m) (check C j) (holdsBit C x)
+  -- what the disks of a check hold XORs to 0, and so does what those of a check word hold
+  check-sum : (v : ℕ → ℕ) (j : ℕ) → j < C .m → over (disks C) (check C j) (holds C v) ≡ 0
+  unfolding disks inCheck
+  check-sum v j l =
+      over-append (C .k) (C .m) (check C j) (holds C v)
       ∙ ap₂ (λ (a b : ℕ). a ⊕ b)
-      (over-set (C .k) (check C j) (column C j) (holdsBit C x) (λ i m. check-has j i (omega arith) ∙ rw (lt-ltb i (C .k) m))
-      ∙ over-cong (C .k) (column C j) (holdsBit C x) (bit x) (λ i m t. word-data C x i m))
-      (over-only (C .m) (check C j / 2 ^ C .k) j (λ i. holdsBit C x (C .k + i)) l
+      (over-set (C .k) (check C j) (column C j) (holds C v) (λ i m. check-has j i (omega arith) ∙ rw (lt-ltb i (C .k) m))
+      ∙ over-cong (C .k) (column C j) (holds C v) v (λ i m t. holds-data C v i m))
+      (over-only (C .m) (check C j / 2 ^ C .k) j (λ i. holds C v (C .k + i)) l
       (λ i m. has-if (check C j / 2 ^ C .k) i (eqb i j) (bit-shift (C .k) (check C j) i ∙ check-parity j i m))
-      ∙ holds-parity C (bit x) j)
-      ∙ ⊕-self (over (C .k) (column C j) (bit x))
+      ∙ holds-parity C v j)
+      ∙ ⊕-self (over (C .k) (column C j) v)
+
+  pub word-sum : (E : ℕ) → InSpan (checks C) E → (v : ℕ → ℕ) → over (disks C) E (holds C v) ≡ 0
+  unfolding checks
+  word-sum E s v =
+      span-zero (λ w. over (disks C) w (holds C v)) (over-none (disks C) (holds C v)) (λ a b. over-⊕ (disks C) a b (holds C v)) (C .m) (check C)
+      (λ j m. check-sum v j m) E s
 
   -- the sets whose bits XOR to 0 for every data word
   abbrev pub Zero : ℕ → Type 0
   Zero E = (E < 2 ^ disks C) × ((x : ℕ) → x < 2 ^ C .k → over (disks C) E (holdsBit C x) ≡ 0)
 
   checks-zero : (E : ℕ) → InSpan (checks C) E → Zero E
-  unfolding checks
+  unfolding checks holdsBit
   checks-zero E s =
-      let r = in-select (checks C) E s in (
-        subst (λ (w : ℕ). w < 2 ^ disks C) (r .2) (select-checks-lt (r .0)),
-        λ x l. span-zero (λ w. over (disks C) w (holdsBit C x)) (over-none (disks C) (holdsBit C x))
-            (λ a b. over-⊕ (disks C) a b (holdsBit C x)) (C .m) (check C) (λ j m. check-zero x j m) E s,
-      )
+      let r = in-select (checks C) E s in
+      (subst (λ (w : ℕ). w < 2 ^ disks C) (r .2) (select-checks-lt (r .0)), λ x l. word-sum E s (bit x))
 
   zero-⊕-zero : (E F : ℕ) → Zero E → Zero F → Zero (E ⊕ F)
   zero-⊕-zero E F (l, e) (m, f) = (

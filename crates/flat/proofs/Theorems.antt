@@ -1,4 +1,4 @@
--- The proofs of the statements of specs/Theorems.antt.
+-- The proofs of the statements of specs/Theorems.antt and specs/Rebuilt.antt.
 -- Assumes nothing.
 use mathlib.Core.Path.{sym, ap, _∙_}
 use Prim.Native.Nat.{ℕ, _+_, _≤_}
@@ -7,6 +7,7 @@ use Rattle.gf2.specs.Sets.{size}
 use Rattle.gf2.proofs.Sizes.{one-left-size}
 use Rattle.flat.specs.Cards.{disks}
 use Rattle.flat.specs.Theorems
+use Rattle.flat.specs.Rebuilt
 use Rattle.flat.specs.Spans.{rows, checks}
 use Rattle.flat.specs.Erasures.{erasures}
 use Rattle.flat.specs.Equations.{equations}
@@ -19,6 +20,7 @@ use Rattle.flat.proofs.Order.{sorted-at}
 use Rattle.flat.proofs.ErasuresListed as listed
 use Rattle.flat.proofs.EquationsListed as equated
 use Rattle.flat.proofs.Verdicts as verdicts
+use Rattle.flat.proofs.Told as left
 use Rattle.flat.proofs.Worked as worked
 
 pub card-reads-back : Theorems.CardReadsBack
@@ -105,3 +107,8 @@ rows-are-not-all = worked.rows-are-not-all
 
 pub order-not-turned : Theorems.OrderNotTurned
 order-not-turned = worked.order-not-turned
+
+-- ---- rebuilding
+
+pub equation-left : Rebuilt.EquationLeft
+equation-left = left.equation-left

@@ -71,6 +71,10 @@ module _ (C : Code) where
       go true = h i
       go false = over-lt w (C .k) (column C (i - C .k)) v (λ d l t. h d)
 
+  pub holds-data : (v : ℕ → ℕ) (i : ℕ) → i < C .k → holds C v i ≡ v i
+  unfolding holds
+  holds-data v i l = rw (lt-ltb i (C .k) l)
+
   pub holds-parity : (v : ℕ → ℕ) (j : ℕ) → holds C v (C .k + j) ≡ over (C .k) (column C j) v
   unfolding holds
   holds-parity v j =
@@ -91,8 +95,8 @@ module _ (C : Code) where
   word-zero i = holds-cong (bit 0) (λ d. 0) i (λ d l. bit-of-zero d) ∙ holds-zero i
 
   pub word-data : (x i : ℕ) → i < C .k → holdsBit C x i ≡ bit x i
-  unfolding holdsBit holds
-  word-data x i l = rw (lt-ltb i (C .k) l)
+  unfolding holdsBit
+  word-data x i l = holds-data (bit x) i l
 
   -- ---- its codeword
 
