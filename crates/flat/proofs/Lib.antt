@@ -16,5 +16,8 @@ pub mod CheckWords
 pub mod EquationsListed
 pub mod Verdicts
 pub mod Told
+pub mod Positions
+pub mod Contents
+pub mod Agreement
 pub mod Worked
 pub mod Theorems

@@ -21,6 +21,8 @@ use Rattle.flat.proofs.ErasuresListed as listed
 use Rattle.flat.proofs.EquationsListed as equated
 use Rattle.flat.proofs.Verdicts as verdicts
 use Rattle.flat.proofs.Told as left
+use Rattle.flat.proofs.Positions as positions
+use Rattle.flat.proofs.Agreement as agreement
 use Rattle.flat.proofs.Worked as worked
 
 pub card-reads-back : Theorems.CardReadsBack
@@ -110,5 +112,14 @@ order-not-turned = worked.order-not-turned
 
 -- ---- rebuilding
 
+pub encoded-filled : Rebuilt.EncodedFilled
+encoded-filled = positions.encoded-filled
+
 pub equation-left : Rebuilt.EquationLeft
 equation-left = left.equation-left
+
+pub restored-filled : Rebuilt.RestoredFilled
+restored-filled = agreement.restored-filled
+
+pub only-content : Rebuilt.OnlyContent
+only-content = agreement.only-content

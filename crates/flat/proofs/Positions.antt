@@ -1,0 +1,75 @@
+-- The bytes of a stripe by disk and place, the stripe that a content gives, and encoding as filling.
+-- Assumes nothing.
+use mathlib.Core.Path.{_≡_, refl, sym, ap, ap₂, _∙_, subst}
+use mathlib.Core.Bool.{Bool, true, false, not}
+use mathlib.Core.List.{List}
+use Prim.Native.Nat.{ℕ, zero, suc, _+_, _-_, _*_, _/_, _%_, _<_}
+use native.Mathlib.Nat.{mod-lt, zero-lt-suc, div-lt-iff-lt-mul, div-add-mod'}
+use native.Mathlib.Omega.{arith}
+use lib.Arith.{digits-lt, digits-div, digits-mod}
+use lib.Dec.{T, ltb}
+use lib.ListN.{length, getD, take}
+use lib.Seq.{getD-take}
+use Rattle.gf2.specs.If.{if_then_else_}
+use Rattle.gf2.specs.Sets.{has, over}
+use Rattle.gf2.proofs.Tests.{ltb-out}
+use Rattle.gf2.proofs.Sums.{over-cong}
+use Rattle.flat.specs.Lists.{tabulate}
+use Rattle.flat.specs.Cards.{Code, disks, column}
+use Rattle.flat.specs.Strips.{byteOf, holds, given, encoded}
+use Rattle.flat.specs.Repairs.{filled, parities}
+use Rattle.flat.specs.Rebuilt.{EncodedFilled}
+use Rattle.flat.proofs.Lists.{getD-tabulate, tabulate-cong}
+use Rattle.flat.proofs.Quantifiers.{has-set}
+
+-- ---- disk and place
+
+-- the disk and the place of a byte
+pub places : (n L p : ℕ) → p < n * L → (p / L < n) × (p % L < L)
+places n zero p l = absurd (omega arith)
+places n (suc L) p l = (div-lt-iff-lt-mul (zero-lt-suc L) .1 l, mod-lt p (zero-lt-suc L))
+
+pub at-place : (L : ℕ) (s : List ℕ) (p : ℕ) → getD s p 0 ≡ byteOf L s (p % L) (p / L)
+unfolding byteOf
+at-place L s p = ap (λ (q : ℕ). getD s q 0) (sym (div-add-mod' p L))
+
+-- a table by number, and a table by place and disk
+pub byte-at : (n L : ℕ) (f : ℕ → ℕ) (t i : ℕ) → t < L → i < n → byteOf L (tabulate (n * L) f) t i ≡ f (i * L + t)
+unfolding byteOf
+byte-at n L f t i h l = getD-tabulate (n * L) f (i * L + t) (digits-lt l h)
+
+pub byte-table : (n L : ℕ) (f : ℕ → ℕ → ℕ) (t i : ℕ) → t < L → i < n → byteOf L (tabulate (n * L) (λ p. f (p % L) (p / L))) t i ≡ f t i
+byte-table n L f t i h l = byte-at n L (λ p. f (p % L) (p / L)) t i h l ∙ ap₂ f (digits-mod i h) (digits-div i h)
+
+-- the first strips are those of the whole
+pub byte-take : (n L : ℕ) (s : List ℕ) (t i : ℕ) → t < L → i < n → byteOf L (take (n * L) s) t i ≡ byteOf L s t i
+unfolding byteOf
+byte-take n L s t i h l = getD-take (n * L) s (i * L + t) 0 (digits-lt l h)
+
+-- ---- what a content gives
+
+pub given-byte : (C : Code) (L : ℕ) (content : List ℕ) (t i : ℕ) → t < L → i < disks C
+    → byteOf L (given C L content) t i ≡ holds C (byteOf L content t) i
+unfolding given
+given-byte C L content t i h l = byte-table (disks C) L (λ u j. holds C (byteOf L content u) j) t i h l
+
+pub encoded-filled : EncodedFilled
+unfolding encoded given filled parities holds
+encoded-filled C L stripe z e =
+    tabulate-cong (disks C * L) (λ p. holds C (byteOf L (take (C .k * L) stripe) (p % L)) (p / L)) new
+    (λ p l. let q = places (disks C) L p l in
+    go p (q .1) (ltb (p / L) (C .k)) (λ t. ltb-out (p / L) (C .k) t)
+    ∙ ap (λ (b : Bool). if b then over (C .k) (column C (p / L - C .k)) (byteOf L stripe (p % L)) else getD stripe p 0)
+    (sym (has-set (disks C) (λ d. not (ltb d (C .k))) (p / L) (q .0))))
+    ∙ ap (λ (n : ℕ). tabulate n new) (sym e)
+  where
+    new : ℕ → ℕ
+    new p = if has (parities C) (p / L) then over (C .k) (column C (p / L - C .k)) (byteOf L stripe (p % L)) else getD stripe p 0
+
+    go : (p : ℕ) → p % L < L → (b : Bool) → (T b → p / L < C .k)
+        → (if b then byteOf L (take (C .k * L) stripe) (p % L) (p / L) else over (C .k) (column C (p / L - C .k)) (byteOf L (take (C .k * L) stripe) (p % L)))
+        ≡ (if not b then over (C .k) (column C (p / L - C .k)) (byteOf L stripe (p % L)) else getD stripe p 0)
+    go p h true l = byte-take (C .k) L stripe (p % L) (p / L) h (l tt) ∙ sym (at-place L stripe p)
+    go p h false l =
+        over-cong (C .k) (column C (p / L - C .k)) (byteOf L (take (C .k * L) stripe) (p % L)) (byteOf L stripe (p % L))
+        (λ d m t. byte-take (C .k) L stripe (p % L) d h m)
