@@ -19,5 +19,7 @@ pub mod Told
 pub mod Positions
 pub mod Contents
 pub mod Agreement
+pub mod Solving
+pub mod Consistency
 pub mod Worked
 pub mod Theorems

@@ -23,6 +23,7 @@ use Rattle.flat.proofs.Verdicts as verdicts
 use Rattle.flat.proofs.Told as left
 use Rattle.flat.proofs.Positions as positions
 use Rattle.flat.proofs.Agreement as agreement
+use Rattle.flat.proofs.Consistency as consistency
 use Rattle.flat.proofs.Worked as worked
 
 pub card-reads-back : Theorems.CardReadsBack
@@ -120,6 +121,9 @@ equation-left = left.equation-left
 
 pub restored-filled : Rebuilt.RestoredFilled
 restored-filled = agreement.restored-filled
+
+pub consistent-agrees : Rebuilt.ConsistentAgrees
+consistent-agrees = consistency.consistent-agrees
 
 pub only-content : Rebuilt.OnlyContent
 only-content = agreement.only-content
