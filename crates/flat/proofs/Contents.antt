@@ -1,6 +1,6 @@
 -- The contents are the lists of N bytes, and a filtered list's first entry is one of them that passes.
 -- Assumes nothing.
-use mathlib.Core.Path.{_≡_, refl, sym, ap, _∙_, subst}
+use mathlib.Core.Path.{_≡_, refl, sym, ap, ap₂, _∙_, subst}
 use mathlib.Core.Bool.{Bool, true, false}
 use mathlib.Core.Logic.{_⊎_, inl, inr, _≢_, ⊎-elim}
 use mathlib.Core.List.{List, [], _∷_, _++_, map}
@@ -110,3 +110,8 @@ filter-first p (c ∷ cs) d ds e = go (p c) (λ t. t) (filter-first p cs d ds) e
         → Among d (c ∷ cs) × T (p d)
     go true f rest q = let z : c ≡ d = cc in (inl (sym z), subst (λ (x : List ℕ). T (p x)) z (f tt))
     go false f rest q = let r = rest q in (inr (r .0), r .1)
+
+pub filter-cong : (p q : List ℕ → Bool) (cs : List (List ℕ)) → ((c : List ℕ) → p c ≡ q c) → filter p cs ≡ filter q cs
+unfolding filter
+filter-cong p q [] e = refl
+filter-cong p q (c ∷ cs) e = ap₂ (λ (b : Bool) (l : List (List ℕ)). if b then c ∷ l else l) (e c) (filter-cong p q cs e)

@@ -21,5 +21,6 @@ pub mod Contents
 pub mod Agreement
 pub mod Solving
 pub mod Consistency
+pub mod Rebuilds
 pub mod Worked
 pub mod Theorems

@@ -30,6 +30,10 @@ module _ {A : Type 0} where
   unfolding unlessRefused
   unless-accepted r ws new old e = rw e
 
+  pub unless-number : (r : Report) (new old : A) → r .number ≡ 0 → unlessRefused r new old ≡ new
+  unfolding unlessRefused
+  unless-number r new old e = rw e
+
   pub unless-refused : (r : Report) (n : ℕ) (vs : List ℕ) (new old : A) → r ≡ refused (suc n) vs → unlessRefused r new old ≡ old
   unfolding unlessRefused
   unless-refused r n vs new old e = rw (e, eqb·suc-zero)
@@ -54,6 +58,22 @@ with-out card ws f e = go (cardReport card .number) refl e
     go (suc n) q h =
         let g : cardReport card ≡ accepted ws = rw (eqb·suc-zero n) at h in
         absurd (let z : suc n ≡ 0 = sym q ∙ ap (λ (r : Report). r .number) g in omega arith)
+
+-- the same of the number alone
+pub with-number : (card : List ℕ) (f : Code → Report) → withCard card f .number ≡ 0 → withCard card f ≡ f (codeOf card)
+unfolding withCard unlessRefused
+with-number card f e = go (cardReport card .number) refl e
+  where
+    go : (n : ℕ) → cardReport card .number ≡ n → (if eqb n 0 then f (codeOf card) else cardReport card) .number ≡ 0
+        → (if eqb n 0 then f (codeOf card) else cardReport card) ≡ f (codeOf card)
+    go zero q h = refl
+    go (suc n) q h =
+        let g : cardReport card .number ≡ 0 = rw (eqb·suc-zero n) at h in absurd (omega arith)
+
+-- only the card's code matters
+pub with-cong : (card : List ℕ) (f g : Code → Report) → f (codeOf card) ≡ g (codeOf card) → withCard card f ≡ withCard card g
+unfolding withCard
+with-cong card f g e = ap (λ (r : Report). unlessRefused (cardReport card) r (cardReport card)) e
 
 -- ---- the report of a list
 

@@ -24,6 +24,7 @@ use Rattle.flat.proofs.Told as left
 use Rattle.flat.proofs.Positions as positions
 use Rattle.flat.proofs.Agreement as agreement
 use Rattle.flat.proofs.Consistency as consistency
+use Rattle.flat.proofs.Rebuilds as rebuilds
 use Rattle.flat.proofs.Worked as worked
 
 pub card-reads-back : Theorems.CardReadsBack
@@ -127,3 +128,6 @@ consistent-agrees = consistency.consistent-agrees
 
 pub only-content : Rebuilt.OnlyContent
 only-content = agreement.only-content
+
+pub lost-bytes-unread : Rebuilt.LostBytesUnread
+lost-bytes-unread = rebuilds.lost-bytes-unread
