@@ -22,5 +22,6 @@ pub mod Agreement
 pub mod Solving
 pub mod Consistency
 pub mod Rebuilds
+pub mod Demanded
 pub mod Worked
 pub mod Theorems

@@ -27,7 +27,7 @@ use Rattle.flat.proofs.EquationsListed as equated
 use Rattle.flat.proofs.ErasuresListed.{fatal-listed}
 
 -- yes is 1
-yes-no : (b : Bool) → (accepted (yesNo b ∷ []) ≡ accepted (1 ∷ [])) ↔ T b
+pub yes-no : (b : Bool) → (accepted (yesNo b ∷ []) ≡ accepted (1 ∷ [])) ↔ T b
 unfolding yesNo
 yes-no true = (λ e. tt, λ t. refl)
 yes-no false = (λ e. absurd (let z : _≡_ {A = ℕ} 0 1 = ap (λ (r : Report). getD (r .values) 0 0) e in omega arith), λ t. absurd t)

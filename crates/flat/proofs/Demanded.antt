@@ -1,0 +1,165 @@
+-- Demand 3 from the theorems: verdict, list, equations and rebuilder share one verdict, the lists are right, and so is rebuilding.
+-- Assumes nothing.
+use mathlib.Core.Path.{_≡_, refl, sym, ap, _∙_, subst}
+use mathlib.Core.Bool.{Bool, true, false}
+use mathlib.Core.Logic.{_⊎_, inl, inr, _≢_, _↔_, ⊎-elim}
+use mathlib.Core.List.{List, [], _∷_}
+use Prim.Native.Nat.{ℕ, _*_, _^_, _≤_, _<_}
+use native.Mathlib.Omega.{arith}
+use lib.Dec.{T, leb}
+use lib.ListN.{length, getD}
+use Rattle.gf2.specs.If.{if_then_else_}
+use Rattle.gf2.specs.Sets.{has, size}
+use Rattle.gf2.proofs.Tests.{and-out, leb-out, if-true, if-false}
+use Rattle.flat.specs.Lists.{Bytes, member}
+use Rattle.flat.specs.Cards.{Code, codeOf, disks, setOk, dataPart}
+use Rattle.flat.specs.Strips.{lengthOk, byteOf, given}
+use Rattle.flat.specs.Erasures.{fatal, minimalErasure, erasures}
+use Rattle.flat.specs.Equations.{minimalEquation, equations}
+use Rattle.flat.specs.Rebuilding.{agreeing}
+use Rattle.flat.specs.Faults.{Report, accepted, refused, cardReport, verdictReport, erasuresReport, equationsReport, survivorsReport, rebuildReport, rebuildStripe}
+use Rattle.flat.specs.Demand3.{Demand3, Agreeing, OneVerdict, RightList, RightEquations, Restored, RightRebuild, listed, told}
+use Rattle.flat.proofs.Order.{sorted-at}
+use Rattle.flat.proofs.Duality.{fatal-untold}
+use Rattle.flat.proofs.ErasuresListed as listing
+use Rattle.flat.proofs.EquationsListed as equated
+use Rattle.flat.proofs.Verdicts.{yes-no, verdict-is, erasures-written, equations-written, verdict-listed, equation-listed, long-slices-accepted}
+use Rattle.flat.proofs.Agreement.{only-content, some-agreeing, first-agreeing, agreeing-cases}
+use Rattle.flat.proofs.Rebuilds.{rebuild-is, restored-lost, restored-kept, stripe-first}
+
+-- a length is not 0
+length-pos : (L : ℕ) → T (lengthOk L) → 0 < L
+unfolding lengthOk
+length-pos L t = let h : 1 ≤ L = leb-out 1 L (and-out (leb 1 L) (leb L 65536) t .0) in omega arith
+
+-- ---- the two lists
+
+module _ (card : List ℕ) (k m : ℕ) (ok : cardReport card ≡ accepted (k ∷ m ∷ [])) where
+  abbrev C : Code
+  C = codeOf card
+
+  module _ (slice : List ℕ) (fits : length (erasures C) ≤ length slice) where
+    counted : erasuresReport card (length slice) ≡ accepted (length (erasures C) ∷ [])
+    counted = long-slices-accepted card (length slice) 0 k m ok .0 fits
+
+    -- the list that is written is the list
+    written : listed card slice ≡ erasures C
+    written = erasures-written card k m ok slice (length (erasures C)) counted
+
+    right-list : RightList card slice
+    right-list =
+        record {
+          count = counted;
+          exact = λ R. subst (λ (l : List ℕ). T (member R l) ↔ ((R < 2 ^ disks C) × T (minimalErasure C R))) (sym written)
+              (listing.erasures-out C R, λ p. listing.erasures-in C R (p .0) (p .1));
+          ordered = subst (λ (l : List ℕ). (i j : ℕ) → i < j → j < length l → listing.Before C (getD l i 0) (getD l j 0)) (sym written)
+              (sorted-at (listing.Before C) (erasures C) (listing.erasures-sorted C));
+        }
+
+  module _ (d : ℕ) (l : d < disks C) (slice : List ℕ) (fits : length (equations C d) ≤ length slice) where
+    told-counted : equationsReport card d (length slice) ≡ accepted (length (equations C d) ∷ [])
+    told-counted = long-slices-accepted card (length slice) d k m ok .1 l fits
+
+    told-written : told card d slice ≡ equations C d
+    told-written = equations-written card k m ok d slice (length (equations C d)) told-counted .1
+
+    right-equations : RightEquations card d slice
+    right-equations =
+        record {
+          count = told-counted;
+          exact = λ E. subst (λ (l : List ℕ). T (member E l) ↔ ((E < 2 ^ disks C) × T (minimalEquation C d E))) (sym told-written)
+              (equated.equations-out C d E, λ p. equated.equations-in C d E (p .0) (p .1));
+          ordered = subst (λ (l : List ℕ). (i j : ℕ) → i < j → j < length l → equated.Before C d (getD l i 0) (getD l j 0)) (sym told-written)
+              (sorted-at (equated.Before C d) (equations C d) (equated.equations-sorted C d));
+        }
+
+-- ---- the rebuilder's verdict
+
+-- it answers 11 only where the set is fatal
+eleven : (b : Bool) (S : ℕ) (found : List (List ℕ)) → (if b then refused 11 [] else survivorsReport S found) ≡ refused 11 [] → T b
+unfolding survivorsReport
+eleven true S found e = tt
+eleven false S [] e = absurd (let z : _≡_ {A = ℕ} 12 11 = ap (λ (r : Report). r .number) e in omega arith)
+eleven false S (c ∷ cs) e = absurd (let z : _≡_ {A = ℕ} 0 11 = ap (λ (r : Report). r .number) e in omega arith)
+
+-- ---- all of it
+
+module _ (card : List ℕ) (k m S L : ℕ) (stripe : List ℕ) (ok : cardReport card ≡ accepted (k ∷ m ∷ [])) (set : T (setOk (codeOf card) S))
+    (len : T (lengthOk L)) (whole : length stripe ≡ disks (codeOf card) * L) where
+  report : rebuildReport card L S stripe
+      ≡ (if fatal (codeOf card) S then refused 11 [] else survivorsReport S (agreeing (codeOf card) L S stripe))
+  report = rebuild-is card (k ∷ m ∷ []) L S stripe ok len set whole
+
+  one-verdict : (slice : List ℕ) (slices : ℕ → List ℕ) → length (erasures (codeOf card)) ≤ length slice
+      → ((d : ℕ) → d < disks (codeOf card) → length (equations (codeOf card) d) ≤ length (slices d)) → OneVerdict card S L stripe slice slices
+  one-verdict slice slices fits fit =
+      let D = codeOf card in
+      let v = verdict-is card k m ok S set in
+      let y = yes-no (fatal D S) in
+      let e = verdict-listed card slice S k m (length (erasures D)) ok set (counted card k m ok slice fits) in
+      let u = fatal-untold D S in
+      let q : (d : ℕ) → d < disks D → _ = λ d l. equation-listed card (slices d) S d k m (length (equations D d)) ok (told-counted card k m ok d l (slices d) (fit d l)) in
+      record {
+        verdict = (λ t. v ∙ y .1 t, λ r. y .0 (sym v ∙ r));
+        entry = (λ t. e .0 (v ∙ y .1 t), λ r. y .0 (sym v ∙ e .1 r));
+        untold = (
+          λ t. let r = u .0 t in (r .0, r .1, r .2, λ x. r .3 (q (r .0) (r .1) .1 x)),
+          λ r. u .1 (r .0, r .1, r .2, λ x. r .3 (q (r .0) (r .1) .0 x)),
+        );
+        rebuilder = (
+          λ t. report ∙ if-true (fatal D S) (refused 11 []) (survivorsReport S (agreeing D L S stripe)) t,
+          λ r. eleven (fatal D S) S (agreeing D L S stripe) (sym report ∙ r),
+        );
+      }
+
+  module _ (n : T (fatal (codeOf card) S) → ⊥) where
+    -- where the set is not fatal, the report is that of the contents that agree
+    left : rebuildReport card L S stripe ≡ survivorsReport S (agreeing (codeOf card) L S stripe)
+    left = report ∙ if-false (fatal (codeOf card) S) (refused 11 []) (survivorsReport S (agreeing (codeOf card) L S stripe)) n
+
+    none-left : agreeing (codeOf card) L S stripe ≡ [] → rebuildReport card L S stripe ≡ refused 12 []
+    unfolding survivorsReport
+    none-left e = left ∙ ap (survivorsReport S) e
+
+    some-left : (c : List ℕ) (cs : List (List ℕ)) → agreeing (codeOf card) L S stripe ≡ c ∷ cs → rebuildReport card L S stripe ≡ accepted (size S ∷ [])
+    unfolding survivorsReport
+    some-left c cs e = left ∙ ap (survivorsReport S) e
+
+    same : (a b : List ℕ) → Agreeing (codeOf card) L S stripe a → Agreeing (codeOf card) L S stripe b → a ≡ b
+    same a b p q = only-content (codeOf card) L S stripe a b (length-pos L len) n (p .strips) (q .strips) (p .agree) (q .agree)
+
+    restored-right : (content c : List ℕ) (cs : List (List ℕ)) → Agreeing (codeOf card) L S stripe content
+        → agreeing (codeOf card) L S stripe ≡ c ∷ cs → Restored card S L stripe content
+    restored-right content c cs a e =
+        let D = codeOf card in
+        let q : c ≡ content = same c content (first-agreeing D L S stripe c cs e) a in
+        let s = stripe-first card L S stripe c cs (ap (λ (r : Report). r .number) (some-left c cs e)) e in
+        record {
+          answer = some-left c cs e;
+          only = λ other b. same other content b a;
+          lost = λ i t l h g. ap (λ (x : List ℕ). byteOf L x t i) s ∙ restored-lost D L S stripe c cs t i h l g
+              ∙ ap (λ (x : List ℕ). byteOf L (given D L x) t i) q;
+          others = λ i t l h g. ap (λ (x : List ℕ). byteOf L x t i) s ∙ restored-kept D L S stripe c cs t i h l g;
+        }
+
+    right-rebuild : RightRebuild card S L stripe
+    right-rebuild =
+        let D = codeOf card in
+        let cases = agreeing-cases D L S stripe in
+        record {
+          none = (
+            λ r content a. ⊎-elim (some-agreeing D L S stripe content a)
+                (λ (c, cs, e). let z : _≡_ {A = ℕ} 0 12 = ap (λ (x : Report). x .number) (sym (some-left c cs e) ∙ r) in omega arith) cases,
+            λ f. ⊎-elim none-left (λ (c, cs, e). absurd (f c (first-agreeing D L S stripe c cs e))) cases,
+          );
+          some = λ content a. ⊎-elim (λ e. absurd (some-agreeing D L S stripe content a e)) (λ (c, cs, e). restored-right content c cs a e) cases;
+          decided = ⊎-elim (λ e. inl (none-left e)) (λ (c, cs, e). inr (c, first-agreeing D L S stripe c cs e)) cases;
+        }
+
+pub demand3 : Demand3
+demand3 card k m S L stripe slice slices ok set len whole bytes fits fit = (
+  one-verdict card k m S L stripe ok set len whole slice slices fits fit,
+  right-list card k m ok slice fits,
+  λ d l. right-equations card k m ok d l (slices d) (fit d l),
+  right-rebuild card k m S L stripe ok set len whole,
+)
