@@ -116,11 +116,16 @@ module _ (C : Code) (L S : ℕ) (stripe : List ℕ) (z : 0 < L) (bytes : Bytes s
         agree = agrees-in C L S stripe content agreed;
       }
 
+-- the bytes need not be bytes for this
+pub agreeing-consistent : (C : Code) (L S : ℕ) (stripe : List ℕ) → agreeing C L S stripe ≢ [] → T (consistent C L S stripe)
+agreeing-consistent C L S stripe some =
+    ⊎-elim (λ e. absurd (some e))
+    (λ (c, cs, e). let a = first-agreeing C L S stripe c cs e in
+    consistent-in C L S stripe (λ t h. agree-vanishing C S (byteOf L stripe t) (byteOf L c t) (agrees-out C L S stripe c (a .agree) t h)))
+    (agreeing-cases C L S stripe)
+
 pub consistent-agrees : ConsistentAgrees
 consistent-agrees C L S stripe z bytes = (
   λ ok. some-agreeing C L S stripe (content C L S stripe z bytes ok) (content-agrees C L S stripe z bytes ok),
-  λ some. ⊎-elim (λ e. absurd (some e))
-      (λ (c, cs, e). let a = first-agreeing C L S stripe c cs e in
-      consistent-in C L S stripe (λ t h. agree-vanishing C S (byteOf L stripe t) (byteOf L c t) (agrees-out C L S stripe c (a .agree) t h)))
-      (agreeing-cases C L S stripe),
+  agreeing-consistent C L S stripe,
 )

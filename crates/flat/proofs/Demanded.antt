@@ -142,7 +142,7 @@ module _ (card : List ℕ) (k m S L : ℕ) (stripe : List ℕ) (ok : cardReport 
           others = λ i t l h g. ap (λ (x : List ℕ). byteOf L x t i) s ∙ restored-kept D L S stripe c cs t i h l g;
         }
 
-    right-rebuild : RightRebuild card S L stripe
+    pub right-rebuild : RightRebuild card S L stripe
     right-rebuild =
         let D = codeOf card in
         let cases = agreeing-cases D L S stripe in

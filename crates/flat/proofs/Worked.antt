@@ -1,4 +1,4 @@
--- The worked codes of document 01: antt computes the definitions at the table's constants.
+-- The worked codes of document 01: antt computes the definitions at the table's constants. For C8 and C9 see WorkedStripes.
 -- Assumes nothing.
 use mathlib.Core.Path.{_≡_, refl, sym, ap, _∙_}
 use mathlib.Core.List.{List, reverse}
@@ -14,6 +14,7 @@ use Rattle.flat.specs.Faults.{cardReport, encodeStripe, erasuresReport, 
 use Rattle.flat.specs.Spans.{rows}
 use Rattle.flat.specs.Worked.{Worked, C1, C2, C3, C4}
 use Rattle.flat.specs.Theorems.{NoListForAll, RowsAreNotAll, OrderNotTurned}
+use Rattle.flat.proofs.WorkedStripes.{c8-answer, c8-stripe, c9-answer}
 
 pub worked : Worked
 unfolding erasures vector fatal member equations cardBytes encodeStripe rebuildReport cardReport erasuresReport
@@ -26,6 +27,8 @@ worked =
       c5 = (refl, refl);
       c6 = (refl, refl);
       c7 = λ p q r. refl;
+      c8 = λ a b c. (c8-answer a b c, c8-stripe a b c);
+      c9 = c9-answer;
       c10 = refl;
       c11 = (refl, refl);
       c12 = (refl, refl);

@@ -1,5 +1,5 @@
 -- Document 01, "Worked codes": the table of constants C1 to C12, and one proposition over it.
--- It is proved in proofs/Worked.antt. C8 and C9 join it with the theorem on rebuilding that they need.
+-- It is proved in proofs/Worked.antt.
 -- Assumes nothing.
 use mathlib.Core.Path.{_≡_}
 use mathlib.Core.Bool.{true, false}
@@ -9,7 +9,7 @@ use Rattle.flat.specs.Lists.{member}
 use Rattle.flat.specs.Cards.{Code, code, cardBytes}
 use Rattle.flat.specs.Erasures.{fatal, erasures, vector}
 use Rattle.flat.specs.Equations.{equations}
-use Rattle.flat.specs.Faults.{accepted, refused, cardReport, encodeStripe, erasuresReport, rebuildReport}
+use Rattle.flat.specs.Faults.{accepted, refused, cardReport, encodeStripe, erasuresReport, rebuildReport, rebuildStripe}
 
 -- ---- the table
 
@@ -47,6 +47,10 @@ C6 = record { of = code 2 1 (1 ∷ []); list = 2 ∷ 5 ∷ []; counts = 1 ∷ []
 abbrev pub C7 : ℕ → ℕ → ℕ → List ℕ
 C7 p q r = 0x11 ∷ 0x22 ∷ 0x44 ∷ 0x88 ∷ p ∷ q ∷ r ∷ []
 
+-- the same, with its parity strips and these strips of disks 0, 1 and 2, which are lost
+abbrev pub C8 : ℕ → ℕ → ℕ → List ℕ
+C8 a b c = a ∷ b ∷ c ∷ 0x88 ∷ 0x77 ∷ 0xBB ∷ 0xDD ∷ []
+
 -- a card of k = 2, m = 1 with this low byte of its column
 abbrev pub C11 : ℕ → List ℕ
 C11 c = 0x02 ∷ 0x01 ∷ c ∷ 0x00 ∷ []
@@ -69,6 +73,10 @@ pub record Worked : Type 0 where
   pub c5 : Right C5
   pub c6 : Right C6
   pub c7 : (p q r : ℕ) → encodeStripe (cardBytes (C1 .of)) 1 (C7 p q r) ≡ C7 0x77 0xBB 0xDD
+  pub c8 : (a b c : ℕ)
+      → (rebuildReport (cardBytes (C1 .of)) 1 7 (C8 a b c) ≡ accepted (3 ∷ []))
+      × (rebuildStripe (cardBytes (C1 .of)) 1 7 (C8 a b c) ≡ C7 0x77 0xBB 0xDD)
+  pub c9 : rebuildReport (cardBytes (C1 .of)) 1 1 (C7 0x77 0xBB 0xDC) ≡ refused 12 []
   pub c10 : rebuildReport (cardBytes (C1 .of)) 1 14 (C7 0x77 0xBB 0xDD) ≡ refused 11 []
   pub c11 : (cardReport (C11 0x03) ≡ accepted (2 ∷ 1 ∷ [])) × (cardReport (C11 0x04) ≡ refused 5 (0 ∷ []))
   pub c12 : (erasuresReport (cardBytes (C3 .of)) 1 ≡ refused 10 (2 ∷ [])) × (erasuresReport (cardBytes (C3 .of)) 2 ≡ accepted (2 ∷ []))
