@@ -4,17 +4,17 @@ use mathlib.Core.Path.{_≡_, refl, sym, ap, _∙_, subst}
 use mathlib.Core.Bool.{Bool, true, false, _||_}
 use mathlib.Core.Logic.{_⊎_, inl, inr, _≢_, ⊎-elim}
 use mathlib.Core.List.{List, [], _∷_}
-use Prim.Native.Nat.{ℕ, _+_, _*_, _/_, _%_, _<_}
+use Prim.Native.Nat.{ℕ, _*_, _/_, _%_, _<_}
 use native.Mathlib.Omega.{arith}
 use lib.Dec.{T, eqb}
-use lib.ListN.{length, getD}
+use lib.ListN.{getD}
 use lib.Seq.{ext-getD}
 use Rattle.gf2.specs.If.{if_then_else_}
 use Rattle.gf2.specs.Sets.{has, _⊆_, over}
 use Rattle.gf2.proofs.Tests.{dec, eqb-in, eqb-out, unless-in, unless-out}
 use Rattle.gf2.proofs.Subsets.{⊆-out}
 use Rattle.gf2.proofs.Sums.{over-cong}
-use Rattle.flat.specs.Lists.{every, tabulate, filter, Bytes}
+use Rattle.flat.specs.Lists.{every, tabulate}
 use Rattle.flat.specs.Cards.{Code, disks}
 use Rattle.flat.specs.Strips.{byteOf, holds, given}
 use Rattle.flat.specs.Erasures.{survivors, fatal}

@@ -1,14 +1,13 @@
 -- Some content agrees with the survivors exactly where the check words among them vanish.
 -- Assumes nothing.
-use mathlib.Core.Path.{_≡_, refl, sym, ap, _∙_, subst}
+use mathlib.Core.Path.{_≡_, sym, ap, _∙_}
 use mathlib.Core.Logic.{_⊎_, inl, inr, _≢_, ⊎-elim}
 use mathlib.Core.List.{List, [], _∷_}
 use Prim.Native.Nat.{ℕ, zero, suc, _+_, _*_, _/_, _%_, _^_, _<_}
 use native.Mathlib.Nat.{mod-lt, mod-eq-of-lt}
 use native.Mathlib.Omega.{arith}
 use lib.Dec.{T, eqb}
-use lib.ListN.{length, getD}
-use Rattle.gf2.specs.Sets.{has, _⊕_, _⊆_, over}
+use Rattle.gf2.specs.Sets.{_⊕_, over}
 use Rattle.gf2.specs.Span.{InSpan}
 use Rattle.gf2.specs.Within.{within}
 use Rattle.gf2.proofs.Tests.{and-in, and-out, eqb-in, eqb-out}
@@ -18,10 +17,10 @@ use Rattle.gf2.proofs.Spans.{first-in}
 use Rattle.gf2.proofs.Elimination.{within-spans}
 use Rattle.flat.specs.Lists.{tabulate, Bytes}
 use Rattle.flat.specs.Cards.{Code, disks}
-use Rattle.flat.specs.Strips.{byteOf, holds}
+use Rattle.flat.specs.Strips.{byteOf}
 use Rattle.flat.specs.Erasures.{survivors}
 use Rattle.flat.specs.Spans.{checks}
-use Rattle.flat.specs.Rebuilding.{agrees, agreeing}
+use Rattle.flat.specs.Rebuilding.{agreeing}
 use Rattle.flat.specs.Repairs.{vanishes, allVanish, consistent}
 use Rattle.flat.specs.Rebuilt.{ConsistentAgrees}
 use Rattle.flat.specs.Demand3.{Agreeing}

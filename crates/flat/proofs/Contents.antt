@@ -7,7 +7,7 @@ use mathlib.Core.List.{List, [], _∷_, _++_, map}
 use Prim.Native.Nat.{ℕ, zero, suc, _+_, _<_}
 use native.Mathlib.Omega.{arith}
 use lib.Dec.{T}
-use lib.ListN.{length, getD}
+use lib.ListN.{length}
 use Rattle.gf2.specs.If.{if_then_else_}
 use Rattle.flat.specs.Lists.{Bytes, range, filter, each}
 use Rattle.flat.specs.Rebuilding.{contents}

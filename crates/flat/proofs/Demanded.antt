@@ -1,23 +1,23 @@
 -- Demand 3 from the theorems: verdict, list, equations and rebuilder share one verdict, the lists are right, and so is rebuilding.
 -- Assumes nothing.
-use mathlib.Core.Path.{_≡_, refl, sym, ap, _∙_, subst}
+use mathlib.Core.Path.{_≡_, sym, ap, _∙_, subst}
 use mathlib.Core.Bool.{Bool, true, false}
-use mathlib.Core.Logic.{_⊎_, inl, inr, _≢_, _↔_, ⊎-elim}
+use mathlib.Core.Logic.{_⊎_, inl, inr, _↔_, ⊎-elim}
 use mathlib.Core.List.{List, [], _∷_}
 use Prim.Native.Nat.{ℕ, _*_, _^_, _≤_, _<_}
 use native.Mathlib.Omega.{arith}
 use lib.Dec.{T, leb}
 use lib.ListN.{length, getD}
 use Rattle.gf2.specs.If.{if_then_else_}
-use Rattle.gf2.specs.Sets.{has, size}
+use Rattle.gf2.specs.Sets.{size}
 use Rattle.gf2.proofs.Tests.{and-out, leb-out, if-true, if-false}
-use Rattle.flat.specs.Lists.{Bytes, member}
-use Rattle.flat.specs.Cards.{Code, codeOf, disks, setOk, dataPart}
+use Rattle.flat.specs.Lists.{member}
+use Rattle.flat.specs.Cards.{Code, codeOf, disks, setOk}
 use Rattle.flat.specs.Strips.{lengthOk, byteOf, given}
 use Rattle.flat.specs.Erasures.{fatal, minimalErasure, erasures}
 use Rattle.flat.specs.Equations.{minimalEquation, equations}
 use Rattle.flat.specs.Rebuilding.{agreeing}
-use Rattle.flat.specs.Faults.{Report, accepted, refused, cardReport, verdictReport, erasuresReport, equationsReport, survivorsReport, rebuildReport, rebuildStripe}
+use Rattle.flat.specs.Faults.{Report, accepted, refused, cardReport, erasuresReport, equationsReport, survivorsReport, rebuildReport}
 use Rattle.flat.specs.Demand3.{Demand3, Agreeing, OneVerdict, RightList, RightEquations, Restored, RightRebuild, listed, told}
 use Rattle.flat.proofs.Order.{sorted-at}
 use Rattle.flat.proofs.Duality.{fatal-untold}

@@ -1,6 +1,6 @@
 -- The bytes of a stripe by disk and place, the stripe that a content gives, and encoding as filling.
 -- Assumes nothing.
-use mathlib.Core.Path.{_≡_, refl, sym, ap, ap₂, _∙_, subst}
+use mathlib.Core.Path.{_≡_, sym, ap, ap₂, _∙_}
 use mathlib.Core.Bool.{Bool, true, false, not}
 use mathlib.Core.List.{List}
 use Prim.Native.Nat.{ℕ, zero, suc, _+_, _-_, _*_, _/_, _%_, _<_}
@@ -8,7 +8,7 @@ use native.Mathlib.Nat.{mod-lt, zero-lt-suc, div-lt-iff-lt-mul, div-add-mod'}
 use native.Mathlib.Omega.{arith}
 use lib.Arith.{digits-lt, digits-div, digits-mod}
 use lib.Dec.{T, ltb}
-use lib.ListN.{length, getD, take}
+use lib.ListN.{getD, take}
 use lib.Seq.{getD-take}
 use Rattle.gf2.specs.If.{if_then_else_}
 use Rattle.gf2.specs.Sets.{has, over}

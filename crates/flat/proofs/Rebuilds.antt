@@ -1,18 +1,17 @@
 -- The rebuilder's report and stripe: what they are where the call is accepted, and that bytes of lost strips are unread.
 -- Assumes nothing.
 use mathlib.Core.Path.{_≡_, refl, sym, ap, ap₂, _∙_, subst}
-use mathlib.Core.Bool.{Bool, true, false, not}
-use mathlib.Core.Logic.{_⊎_, inl, inr, _≢_, ⊎-elim}
+use mathlib.Core.Bool.{not}
+use mathlib.Core.Logic.{_⊎_, _≢_, ⊎-elim}
 use mathlib.Core.List.{List, [], _∷_}
-use Prim.Native.Nat.{ℕ, _+_, _*_, _/_, _%_, _<_}
+use Prim.Native.Nat.{ℕ, _+_, _*_, _/_, _<_}
 use native.Mathlib.Omega.{arith}
 use lib.Arith.{digits-div}
 use lib.Dec.{T, eqb}
 use lib.ListN.{length, getD}
 use Rattle.gf2.specs.If.{if_then_else_}
-use Rattle.gf2.specs.Sets.{has, size}
+use Rattle.gf2.specs.Sets.{has}
 use Rattle.gf2.proofs.Tests.{T-ext, T-true, if-true, if-false, eqb-in}
-use Rattle.flat.specs.Lists.{tabulate, filter}
 use Rattle.flat.specs.Cards.{Code, codeOf, disks, setOk}
 use Rattle.flat.specs.Strips.{lengthOk, byteOf, given}
 use Rattle.flat.specs.Erasures.{fatal}

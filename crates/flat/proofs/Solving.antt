@@ -3,7 +3,7 @@
 use mathlib.Core.Path.{_≡_, refl, sym, ap, ap₂, _∙_, subst}
 use mathlib.Core.Bool.{Bool, true, false, not, _&&_}
 use mathlib.Core.Logic.{_⊎_, inl, inr, ⊎-elim}
-use Prim.Native.Nat.{ℕ, zero, suc, _+_, _-_, _^_, _≤_, _<_}
+use Prim.Native.Nat.{ℕ, zero, suc, _-_, _^_, _≤_, _<_}
 use native.Mathlib.Nat.{not-suc-le-zero, lt-irrefl}
 use native.Mathlib.Omega.{arith}
 use lib.Dec.{T, eqb, ltb}
@@ -21,7 +21,7 @@ use Rattle.flat.specs.Strips.{holds}
 use Rattle.flat.specs.Erasures.{holdsBit, survivors}
 use Rattle.flat.specs.Spans.{codeword, checks}
 use Rattle.flat.proofs.Quantifiers.{set-in, set-out}
-use Rattle.flat.proofs.Words.{holds-⊕, holds-lt, word-lt, codeword-bit}
+use Rattle.flat.proofs.Words.{holds-⊕, holds-lt, codeword-bit}
 use Rattle.flat.proofs.Duality.{Told, Held, survivor-in, survivor-out, told-or-held}
 use Rattle.flat.proofs.CheckWords.{equation-word, told-sum, equation-sum}
 use Rattle.flat.proofs.Told.{among-lt}

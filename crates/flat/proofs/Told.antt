@@ -1,6 +1,6 @@
 -- The equation that `within` leaves of a lost disk, where the lost set is not fatal.
 -- Assumes nothing.
-use mathlib.Core.Path.{_≡_, sym, ap, subst}
+use mathlib.Core.Path.{_≡_, sym, subst}
 use mathlib.Core.Bool.{Bool, true, false}
 use mathlib.Core.Logic.{_⊎_, inl, inr, ⊎-elim}
 use mathlib.Core.List.{List, [], _∷_}
@@ -11,7 +11,6 @@ use Rattle.gf2.specs.If.{if_then_else_}
 use Rattle.gf2.specs.Sets.{bit, has, _⊕_, _⊆_, _∖_, over}
 use Rattle.gf2.specs.Span.{InSpan}
 use Rattle.gf2.specs.Within.{within}
-use Rattle.gf2.proofs.Tests.{dec}
 use Rattle.gf2.proofs.Bits.{bit-of-zero, not-has}
 use Rattle.gf2.proofs.Xor.{⊕-comm}
 use Rattle.gf2.proofs.Subsets.{⊕-left, ⊆-le, less-⊆, plus-has, plus-back, plus-⊆}
