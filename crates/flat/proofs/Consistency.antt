@@ -115,7 +115,7 @@ module _ (C : Code) (L S : ℕ) (stripe : List ℕ) (z : 0 < L) (bytes : Bytes s
         agree = agrees-in C L S stripe content agreed;
       }
 
--- the bytes need not be bytes for this
+-- this direction needs no bytes and no length
 pub agreeing-consistent : (C : Code) (L S : ℕ) (stripe : List ℕ) → agreeing C L S stripe ≢ [] → T (consistent C L S stripe)
 agreeing-consistent C L S stripe some =
     ⊎-elim (λ e. absurd (some e))

@@ -98,21 +98,21 @@ stripe-first card L S stripe content others e q =
 -- ---- bytes of lost strips are unread
 
 -- two stripes with the same survivors
-abbrev Alike : Code → ℕ → ℕ → List ℕ → List ℕ → Type 0
-Alike C L S stripe other = (i t : ℕ) → i < disks C → (T (has S i) → ⊥) → t < L → byteOf L stripe t i ≡ byteOf L other t i
+abbrev SameLeft : Code → ℕ → ℕ → List ℕ → List ℕ → Type 0
+SameLeft C L S stripe other = (i t : ℕ) → i < disks C → (T (has S i) → ⊥) → t < L → byteOf L stripe t i ≡ byteOf L other t i
 
-agrees-alike : (C : Code) (L S : ℕ) (stripe other : List ℕ) → Alike C L S stripe other
+agrees-alike : (C : Code) (L S : ℕ) (stripe other : List ℕ) → SameLeft C L S stripe other
     → (content : List ℕ) → T (agrees C L S stripe content) → T (agrees C L S other content)
 agrees-alike C L S stripe other same content a =
     agrees-in C L S other content (λ t h i l s. agrees-out C L S stripe content a t h i l s ∙ same i t l s h)
 
-agreeing-alike : (C : Code) (L S : ℕ) (stripe other : List ℕ) → Alike C L S stripe other → agreeing C L S stripe ≡ agreeing C L S other
+agreeing-alike : (C : Code) (L S : ℕ) (stripe other : List ℕ) → SameLeft C L S stripe other → agreeing C L S stripe ≡ agreeing C L S other
 unfolding agreeing
 agreeing-alike C L S stripe other same =
     filter-cong (agrees C L S stripe) (agrees C L S other) (contents (C .k * L))
     (λ c. T-ext (agrees-alike C L S stripe other same c) (agrees-alike C L S other stripe (λ i t l s h. sym (same i t l s h)) c))
 
-report-alike : (card : List ℕ) (L S : ℕ) (stripe other : List ℕ) → length stripe ≡ length other → Alike (codeOf card) L S stripe other
+report-alike : (card : List ℕ) (L S : ℕ) (stripe other : List ℕ) → length stripe ≡ length other → SameLeft (codeOf card) L S stripe other
     → rebuildReport card L S stripe ≡ rebuildReport card L S other
 report-alike card L S stripe other e same =
     report-tested card L S stripe
