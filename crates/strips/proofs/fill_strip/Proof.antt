@@ -1,0 +1,119 @@
+-- `strips::fill_strip` meets its contract: the strip is written up to o, the other strips are as at entry.
+-- Assumes nothing.
+use mathlib.Core.Path.{_≡_, refl, sym, ap, _∙_, subst}
+use Prim.Native.Nat.{ℕ, _+_, _-_, _*_, _≤_}
+use native.Mathlib.Omega.{arith}
+use mathlib.Core.List.{List}
+use lib.Seq.{paste}
+use Rattle.strips.proofs.Written.{Written, strip, written-start, strip-more}
+use Rattle.strips.proofs.Filling.{strip-filled}
+use borrow.Author.Needs.{needs}
+use Rattle.strips.proofs.fill_strip.Statement.{statement}
+use Rattle.strips.proofs.fill_strip.Tie as tie
+
+abbrev Inv-loop : tie.InvT-loop
+Inv-loop s₀ l n set d at o₀ s o = (o ≤ l) × (at ≡ d * l) × Written s₀ s (d * l) (d * l + o) (strip n l set d s₀)
+
+abbrev μ-loop : tie.MeasureT-loop
+μ-loop s₀ l n set d at o₀ s o = l - o
+
+mul-at : tie.Need-mul-at Inv-loop μ-loop
+mul-at c = search needs
+
+loop-holds : tie.Need-loop-holds Inv-loop μ-loop
+loop-holds c = (search needs, refl, written-start _ _ _)
+
+add-loop : tie.Need-add-loop Inv-loop μ-loop
+add-loop c = search needs
+
+sum-requires : tie.Need-sum-requires Inv-loop μ-loop
+sum-requires c κs = search needs
+
+add-put : tie.Need-add-put Inv-loop μ-loop
+add-put c = search needs
+
+put-requires : tie.Need-put-requires Inv-loop μ-loop
+put-requires c κs = search needs
+
+add-o : tie.Need-add-o Inv-loop μ-loop
+add-o c = search needs
+
+loop-less : tie.Need-loop-less Inv-loop μ-loop
+loop-less c = search needs
+
+loop-again : tie.Need-loop-again Inv-loop μ-loop
+loop-again c =
+    let lp = c .before .before .before .before .before .before .before .loop in
+    let st = c .before .before .before .before .before .before .before .before .before in
+    let a = st .args in (
+      search needs,
+      lp .inv .1,
+      subst (λ (s : List ℕ). Written (a .s .now) s (a .d * a .l) (a .d * a .l + (lp .o + 128)) (strip (a .n) (a .l) (a .set) (a .d) (a .s .now)))
+          (sym (c .before .before .put .ensures ∙ ap (λ (at : ℕ). paste (lp .s) (at + lp .o) (c .before .before .before .before .sum .result) 128) (lp .inv .1)))
+          (strip-more (a .n) (a .l) (a .set) (a .d) (a .s .now) (st .pre .1) (lp .s) (c .before .before .before .before .sum .result) (lp .o) (lp .o) (lp .inv .2)
+          (omega arith) (omega arith) (search needs) (search needs) (c .before .before .before .before .sum .ensures)),
+    )
+
+sub-last : tie.Need-sub-last Inv-loop μ-loop
+sub-last c = search needs
+
+sum-requires-2 : tie.Need-sum-requires-2 Inv-loop μ-loop
+sum-requires-2 c κs = search needs
+
+add-put-2 : tie.Need-add-put-2 Inv-loop μ-loop
+add-put-2 c = search needs
+
+put-requires-2 : tie.Need-put-requires-2 Inv-loop μ-loop
+put-requires-2 c κs = search needs
+
+same-length : tie.Need-same-length Inv-loop μ-loop
+same-length c = search needs
+
+returns : tie.Need-returns Inv-loop μ-loop
+returns c =
+    let lp = c .before .before .before .before .before .before .before .before .loop in
+    let st = c .before .before .before .before .before .before .before .before .before .before in
+    let a = st .args in
+    let block = c .before .before .before .before .sum2 .result in
+    let e : a .l - 128 + 128 ≡ a .l = search needs in
+    strip-filled (a .n) (a .l) (a .set) (a .d) (a .s .now) (c .before .before .put2 .last .0) (search needs)
+    (subst (λ (s : List ℕ). Written (a .s .now) s (a .d * a .l) (a .d * a .l + a .l) (strip (a .n) (a .l) (a .set) (a .d) (a .s .now)))
+    (sym (c .before .before .put2 .ensures ∙ ap (λ (at : ℕ). paste (lp .s) (at + (a .l - 128)) block 128) (lp .inv .1)))
+    (subst (λ (o : ℕ). Written (a .s .now) (paste (lp .s) (a .d * a .l + (a .l - 128)) block 128) (a .d * a .l) (a .d * a .l + o) (strip (a .n) (a .l) (a .set) (a .d) (a .s .now))) e
+    (strip-more (a .n) (a .l) (a .set) (a .d) (a .s .now) (st .pre .1) (lp .s) block (lp .o) (a .l - 128) (lp .inv .2)
+    (search needs) (search needs) (search needs) (search needs) (c .before .before .before .before .sum2 .ensures))))
+
+same-length-2 : tie.Need-same-length-2 Inv-loop μ-loop
+same-length-2 c = search needs
+
+returns-2 : tie.Need-returns-2 Inv-loop μ-loop
+returns-2 c =
+    let lp = c .before .before .loop in
+    let a = c .before .before .before .before .args in
+    let e : lp .o ≡ a .l = search needs in
+    strip-filled (a .n) (a .l) (a .set) (a .d) (a .s .now) (lp .s) (search needs)
+    (subst (λ (o : ℕ). Written (a .s .now) (lp .s) (a .d * a .l) (a .d * a .l + o) (strip (a .n) (a .l) (a .set) (a .d) (a .s .now))) e (lp .inv .2))
+
+pub fill-strip-spec : {M : Type 1} → statement M
+fill-strip-spec =
+    tie.close
+    (tie.spec
+    Inv-loop
+    μ-loop
+    mul-at
+    loop-holds
+    add-loop
+    sum-requires
+    add-put
+    put-requires
+    add-o
+    loop-less
+    loop-again
+    sub-last
+    sum-requires-2
+    add-put-2
+    put-requires-2
+    same-length
+    returns
+    same-length-2
+    returns-2)
