@@ -54,14 +54,14 @@ select-end n bs x word e q = e ∙ ap (λ (k : ℕ). over k x (λ i. getD bs i 0
 -- ---- within: the rows left so far, and what `within` makes of the rows still to come, are what it makes of all
 
 -- rows i .. n - 1
-abbrev coming : ℕ → ℕ → List ℕ → List ℕ
+abbrev pub coming : ℕ → ℕ → List ℕ → List ℕ
 coming i n rows = drop i (take n rows)
 
-coming-cons : (i n : ℕ) (rows : List ℕ) → i < n → n ≤ length rows → coming i n rows ≡ getD rows i 0 ∷ coming (suc i) n rows
+pub coming-cons : (i n : ℕ) (rows : List ℕ) → i < n → n ≤ length rows → coming i n rows ≡ getD rows i 0 ∷ coming (suc i) n rows
 coming-cons i n rows h l =
     drop-cons (take n rows) i 0 (rw (length-take-le n rows l) h) ∙ ap (λ (b : ℕ). b ∷ coming (suc i) n rows) (getD-take n rows i 0 h)
 
-coming-none : (n : ℕ) (rows : List ℕ) → n ≤ length rows → coming n n rows ≡ []
+pub coming-none : (n : ℕ) (rows : List ℕ) → n ≤ length rows → coming n n rows ≡ []
 coming-none n rows l = drop-of-length-le (take n rows) {i = n} (omega (arith, length-take-le n rows l))
 
 coming-map : (f : ℕ → ℕ) (i n : ℕ) (rows : List ℕ) → coming i n (map f rows) ≡ map f (coming i n rows)
