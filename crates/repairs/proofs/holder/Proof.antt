@@ -1,55 +1,80 @@
+-- `repairs::holder` meets its contract: no row that the loop has passed holds the disk.
+-- Assumes nothing.
+use mathlib.Core.Path.{_≡_, refl, sym, _∙_}
+use Prim.Native.Nat.{_≤_, _<_, _-_}
+use native.Mathlib.Omega.{arith}
+use lib.ListN.{length, take}
 use borrow.Author.Needs.{needs}
+use Rattle.gf2.proofs.Loops.{coming}
+use Rattle.flat.specs.Repairs.{holder}
+use Rattle.repairs.proofs.Laws.{holder-here, holder-later, holder-nowhere}
 use Rattle.repairs.proofs.holder.Statement.{statement}
 use Rattle.repairs.proofs.holder.Tie as tie
-use Rattle.repairs.proofs.holder.Reads as reads
-use Rattle.repairs.proofs.holder.Lts as lts
-use Rattle.gf2.proofs.has.Reads as has-reads
 
 abbrev Inv-loop : tie.InvT-loop
-Inv-loop d n rows i₀ i = ?
+Inv-loop d n rows i₀ i = (i ≤ n) × (n ≤ 16) × (length rows ≡ 16) × (holder d (take n rows) ≡ holder d (coming i n rows))
 
 abbrev μ-loop : tie.MeasureT-loop
-μ-loop d n rows i₀ i = ?
+μ-loop d n rows i₀ i = n - i
 
--- src/lib.rt:53:5
 loop-holds : tie.Need-loop-holds Inv-loop μ-loop
-loop-holds c = ?
+loop-holds c = (search needs, search needs, search needs, refl)
 
--- src/lib.rt:54:19
 mul-row : tie.Need-mul-row Inv-loop μ-loop
 mul-row c = search needs
 
--- src/lib.rt:54:19
 array-read-row : tie.Need-array-read-row Inv-loop μ-loop
 array-read-row c = search needs
 
--- src/lib.rt:55:26
 cast-has : tie.Need-cast-has Inv-loop μ-loop
 cast-has c = search needs
 
--- src/lib.rt:55:12
 has-requires : tie.Need-has-requires Inv-loop μ-loop
 has-requires c κs = search needs
 
--- src/lib.rt:56:13
-returns : tie.Need-returns Inv-loop μ-loop
-returns c = ?
+-- once the row has been tested: the row is one of the n, and n are there
+abbrev start : tie.After-has Inv-loop μ-loop → tie.Start Inv-loop μ-loop
+start c = c .before .before .before .before
 
--- src/lib.rt:53:9
+abbrev turn : tie.After-has Inv-loop μ-loop → tie.At-loop Inv-loop μ-loop
+turn c = c .before .before
+
+inside : (c : tie.After-has Inv-loop μ-loop) → (turn c .loop .i < start c .args .basis .count) × (start c .args .basis .count ≤ length (start c .args .basis .rows))
+inside c = (search needs, search needs)
+
+returns : tie.Need-returns Inv-loop μ-loop
+returns c =
+    let b = c .before in
+    let h = inside b in
+    sym
+    (turn b .loop .inv .3
+    ∙ holder-here (start b .args .d) (start b .args .basis .count) (start b .args .basis .rows) (turn b .loop .i) (h .0) (h .1)
+    (sym (b .has .ensures) ∙ c .if1 .taken))
+
 add-i : tie.Need-add-i Inv-loop μ-loop
 add-i c = search needs
 
--- src/lib.rt:53:5
 loop-less : tie.Need-loop-less Inv-loop μ-loop
 loop-less c = search needs
 
--- src/lib.rt:53:5
 loop-again : tie.Need-loop-again Inv-loop μ-loop
-loop-again c = ?
+loop-again c =
+    let b = c .before in
+    let h = inside b in (
+      search needs,
+      search needs,
+      search needs,
+      turn b .loop .inv .3
+          ∙ holder-later (start b .args .d) (start b .args .basis .count) (start b .args .basis .rows) (turn b .loop .i) (h .0) (h .1)
+          (sym (b .has .ensures) ∙ c .if1 .left),
+    )
 
--- src/lib.rt:47:1
 returns-2 : tie.Need-returns-2 Inv-loop μ-loop
-returns-2 c = ?
+returns-2 c =
+    let l = c .before .loop in
+    let a = c .before .before .before .args in
+    let e : l .i ≡ a .basis .count = omega arith in
+    sym ((rw e at (l .inv .3)) ∙ holder-nowhere (a .d) (a .basis .count) (a .basis .rows) (search needs))
 
 pub holder-spec : {M : Type 1} → statement M
 holder-spec =

@@ -1,27 +1,33 @@
+-- `repairs::undetermined` meets its contract: the undetermined disks are the union of the rows left.
+-- Assumes nothing.
+use mathlib.Core.Path.{sym, ap, _∙_}
+use denote.Ref.{now}
 use borrow.Author.Needs.{needs}
+use Rattle.gf2.specs.Sets.{union}
+use Rattle.gf2.specs.Within.{within}
+use Rattle.flat.specs.Cards.{code, columnsIn, disks}
+use Rattle.flat.proofs.Undetermined.{undetermined-set}
+use Rattle.bases.proofs.Systematic.{taken}
 use Rattle.repairs.proofs.undetermined.Statement.{statement}
 use Rattle.repairs.proofs.undetermined.Tie as tie
-use Rattle.repairs.proofs.undetermined.Reads as reads
-use Rattle.repairs.proofs.undetermined.Lts as lts
-use Rattle.bases.proofs.rows.Reads as rows-reads
-use Rattle.gf2.proofs.union.Reads as union-reads
-use Rattle.gf2.proofs.within.Reads as within-reads
 
--- src/lib.rt:34:28
 rows-requires : tie.Need-rows-requires
 rows-requires c κs = search needs
 
--- src/lib.rt:34:16
 within-requires : tie.Need-within-requires
 within-requires c κs = search needs
 
--- src/lib.rt:34:5
 union-requires : tie.Need-union-requires
 union-requires c κs = search needs
 
--- src/lib.rt:30:1
 returns : tie.Need-returns
-returns c = ?
+unfolding disks
+returns c =
+    let w = c .before .within in
+    let b = c .before .before .rows in
+    let a = c .before .before .before .before .args in
+    c .union .ensures ∙ ap union (w .ensures .1 ∙ ap (within _) (taken _ _ _ _ (b .ensures .0) (b .ensures .1)))
+    ∙ sym (undetermined-set (code (a .k) (a .m) (columnsIn (a .m) (now (a .columns)))) (a .lost))
 
 pub undetermined-spec : {M : Type 1} → statement M
 undetermined-spec = tie.close (tie.spec rows-requires within-requires union-requires returns)
