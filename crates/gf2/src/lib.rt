@@ -140,10 +140,10 @@ pub fn union(basis: Basis) -> u32
     requires { ⌜ basis .count ≤ 16 ⌝ }
     ensures { λ r. ⌜ r ≡ union (take (basis .count) (basis .rows)) ⌝ }
 {
-    let n = basis.count;
+    let count = basis.count;
     let rows = basis.rows;
     let mut held = 0;
-    for i in 0..n {
+    for i in 0..count {
         held = held | rows[i];
     }
     held

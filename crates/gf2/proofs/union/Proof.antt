@@ -11,10 +11,11 @@ use Rattle.gf2.proofs.union.Statement.{statement}
 use Rattle.gf2.proofs.union.Tie as tie
 
 abbrev Inv-loop : tie.InvT-loop
-Inv-loop n rows held₀ i₀ held i = (i ≤ n) × (n ≤ 16) × (length rows ≡ 16) × (held-all n i rows held ≡ union (take n rows))
+Inv-loop count rows held₀ i₀ held i =
+    (i ≤ count) × (count ≤ 16) × (length rows ≡ 16) × (held-all count i rows held ≡ union (take count rows))
 
 abbrev μ-loop : tie.MeasureT-loop
-μ-loop n rows held₀ i₀ held i = n - i
+μ-loop count rows held₀ i₀ held i = count - i
 
 loop-holds : tie.Need-loop-holds Inv-loop μ-loop
 loop-holds c = (search needs, search needs, search needs, held-start _ _)

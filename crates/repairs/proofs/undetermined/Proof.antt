@@ -26,7 +26,7 @@ returns c =
     let w = c .before .within in
     let b = c .before .before .rows in
     let a = c .before .before .before .before .args in
-    c .union .ensures ∙ ap union (w .ensures .1 ∙ ap (within _) (taken _ _ _ _ (b .ensures .0) (b .ensures .1)))
+    c .union .ensures ∙ ap union (w .ensures .1 ∙ ap (within (a .lost)) (taken _ _ _ _ (b .ensures .0) (b .ensures .1)))
     ∙ sym (undetermined-set (code (a .k) (a .m) (columnsIn (a .m) (now (a .columns)))) (a .lost))
 
 pub undetermined-spec : {M : Type 1} → statement M
