@@ -81,7 +81,7 @@ only-data C S f v w n a b d l = sym (holds-data C v d l) ∙ ⊎-elim lost left 
     left s = a d below s ∙ sym (b d below s)
 
 pub only-content : OnlyContent
-only-content C L S stripe a b z n la lb p q =
+only-content C L S stripe a b n la lb p q =
     ext-getD 0 a b (la ∙ sym lb)
     (λ i l. let r = places (C .k) L i (subst (λ (x : ℕ). i < x) la l) in
     at-place L a i
@@ -117,7 +117,7 @@ agreeing-cases C L S stripe = go (agreeing C L S stripe)
 
 pub restored-filled : RestoredFilled
 unfolding restored filled
-restored-filled C L S stripe z e n some =
+restored-filled C L S stripe e n some =
     ⊎-elim (λ q. absurd (some q))
     (λ (c, cs, q). ap (restored C L S stripe) q
     ∙ tabulate-cong (disks C * L) (λ p. if has S (p / L) then getD (given C L c) p 0 else getD stripe p 0) new

@@ -2,15 +2,15 @@
 -- Assumes nothing.
 use mathlib.Core.Path.{_≡_, sym, ap, _∙_, subst}
 use mathlib.Core.Bool.{Bool, true, false}
-use mathlib.Core.Logic.{_⊎_, inl, inr, _↔_, ⊎-elim}
+use mathlib.Core.Logic.{inl, inr, _↔_, ⊎-elim}
 use mathlib.Core.List.{List, [], _∷_}
 use Prim.Native.Nat.{ℕ, _*_, _^_, _≤_, _<_}
 use native.Mathlib.Omega.{arith}
-use lib.Dec.{T, leb}
+use lib.Dec.{T}
 use lib.ListN.{length, getD}
 use Rattle.gf2.specs.If.{if_then_else_}
 use Rattle.gf2.specs.Sets.{size}
-use Rattle.gf2.proofs.Tests.{and-out, leb-out, if-true, if-false}
+use Rattle.gf2.proofs.Tests.{if-true, if-false}
 use Rattle.flat.specs.Lists.{member}
 use Rattle.flat.specs.Cards.{Code, codeOf, disks, setOk}
 use Rattle.flat.specs.Strips.{lengthOk, byteOf, given}
@@ -26,11 +26,6 @@ use Rattle.flat.proofs.EquationsListed as equated
 use Rattle.flat.proofs.Verdicts.{yes-no, verdict-is, erasures-written, equations-written, verdict-listed, equation-listed, long-slices-accepted}
 use Rattle.flat.proofs.Agreement.{only-content, some-agreeing, first-agreeing, agreeing-cases}
 use Rattle.flat.proofs.Rebuilds.{rebuild-is, restored-lost, restored-kept, stripe-first}
-
--- a length is not 0
-length-pos : (L : ℕ) → T (lengthOk L) → 0 < L
-unfolding lengthOk
-length-pos L t = let h : 1 ≤ L = leb-out 1 L (and-out (leb 1 L) (leb L 65536) t .0) in omega arith
 
 -- ---- the two lists
 
@@ -126,7 +121,7 @@ module _ (card : List ℕ) (k m S L : ℕ) (stripe : List ℕ) (ok : cardReport 
     some-left c cs e = left ∙ ap (survivorsReport S) e
 
     same : (a b : List ℕ) → Agreeing (codeOf card) L S stripe a → Agreeing (codeOf card) L S stripe b → a ≡ b
-    same a b p q = only-content (codeOf card) L S stripe a b (length-pos L len) n (p .strips) (q .strips) (p .agree) (q .agree)
+    same a b p q = only-content (codeOf card) L S stripe a b n (p .strips) (q .strips) (p .agree) (q .agree)
 
     restored-right : (content c : List ℕ) (cs : List (List ℕ)) → Agreeing (codeOf card) L S stripe content
         → agreeing (codeOf card) L S stripe ≡ c ∷ cs → Restored card S L stripe content
@@ -157,7 +152,7 @@ module _ (card : List ℕ) (k m S L : ℕ) (stripe : List ℕ) (ok : cardReport 
         }
 
 pub demand3 : Demand3
-demand3 card k m S L stripe slice slices ok set len whole bytes fits fit = (
+demand3 card k m S L stripe slice slices ok set len whole fits fit = (
   one-verdict card k m S L stripe ok set len whole slice slices fits fit,
   right-list card k m ok slice fits,
   λ d l. right-equations card k m ok d l (slices d) (fit d l),

@@ -8,6 +8,7 @@ pub mod Rows
 pub mod Fatal
 pub mod Separation
 pub mod Duality
+pub mod Undetermined
 pub mod Members
 pub mod Order
 pub mod Least

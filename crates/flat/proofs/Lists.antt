@@ -1,14 +1,19 @@
 -- Laws of the words that the definitions are written in: tables, padded lists, and numbers in bytes.
 -- Assumes nothing.
-use mathlib.Core.Path.{_≡_, refl, sym, ap, ap₂, _∙_}
+use mathlib.Core.Path.{_≡_, refl, sym, ap, ap₂, _∙_, subst}
+use mathlib.Core.Logic.{_⊎_, inl, inr}
 use mathlib.Core.List.{List, [], _∷_, _++_, map}
 use Prim.Native.Nat.{ℕ, zero, suc, _+_, _-_, _*_, _≤_, _<_}
 use native.Mathlib.Nat.{not-suc-le-zero, add-zero}
 use native.Mathlib.Omega.{arith}
-use lib.ListN.{length, getD, take, drop, set, replicate, length-append, length-replicate}
-use lib.Seq.{take-at, set-at, append-snoc}
 use native.Mathlib.Numerals.{add-one}
-use Rattle.flat.specs.Lists.{range, tabulate, padded, number, field}
+use borrow.Author.Tests.{lt-ltb, le-ltb}
+use lib.Dec.{ltb}
+use lib.ListN.{length, getD, take, set, replicate, length-append, length-replicate, List·getD-append, List·getD-eq-default}
+use lib.Seq.{take-at, set-at, append-snoc, getD-append-add, ext-getD}
+use Rattle.gf2.specs.If.{if_then_else_}
+use Rattle.gf2.proofs.Tests.{below-or}
+use Rattle.flat.specs.Lists.{range, tabulate, padded, field}
 
 -- ---- tables
 
@@ -68,6 +73,42 @@ pub fill-more : (n j v : ℕ) (f : ℕ → ℕ) (out : List ℕ) → j < n → o
     → set out j v ≡ padded n (tabulate (j + 1) f)
 fill-more n j v f out h o e =
     rw (o, e, add-one) (padded-more n j (f j) (tabulate j f) (length-tabulate j f) h ∙ ap (padded n) (sym (tabulate-more j f)))
+
+getD-zeros : (n i : ℕ) → _≡_ {A = ℕ} (getD (replicate n 0) i 0) 0
+getD-zeros zero i = refl
+getD-zeros (suc n) zero = refl
+getD-zeros (suc n) (suc i) = getD-zeros n i
+
+-- the list's entries, then zeros
+getD-padded : (n i : ℕ) (xs : List ℕ) → getD (padded n xs) i 0 ≡ getD xs i 0
+unfolding padded
+getD-padded n i xs = go (below-or i (length xs))
+  where
+    zeros : List ℕ
+    zeros = replicate (n - length xs) 0
+
+    go : (i < length xs) ⊎ (length xs ≤ i) → getD (xs ++ zeros) i 0 ≡ getD xs i 0
+    go (inl l) = List·getD-append xs zeros 0 i l
+    go (inr l) =
+        let e : i ≡ length xs + (i - length xs) = omega arith in
+        ap (λ (j : ℕ). getD (xs ++ zeros) j 0) e ∙ getD-append-add xs zeros (i - length xs) 0 ∙ getD-zeros (n - length xs) (i - length xs)
+        ∙ sym (List·getD-eq-default xs 0 l)
+
+-- what has been filled up to place j is a table with zeros from there on
+pub fill-end : (n j : ℕ) (f : ℕ → ℕ) → j ≤ n → padded n (tabulate j f) ≡ tabulate n (λ i. if ltb i j then f i else 0)
+fill-end n j f h =
+    ext-getD 0 (padded n (tabulate j f)) (tabulate n new) (len ∙ sym (length-tabulate n new))
+    (λ i l. getD-padded n i (tabulate j f) ∙ go i (below-or i j) ∙ sym (getD-tabulate n new i (subst (λ (x : ℕ). i < x) len l)))
+  where
+    new : ℕ → ℕ
+    new i = if ltb i j then f i else 0
+
+    len : length (padded n (tabulate j f)) ≡ n
+    len = length-padded n (tabulate j f) (rw (length-tabulate j f) h)
+
+    go : (i : ℕ) → (i < j) ⊎ (j ≤ i) → getD (tabulate j f) i 0 ≡ (if ltb i j then f i else 0)
+    go i (inl l) = rw (lt-ltb i j l) (getD-tabulate j f i l)
+    go i (inr l) = rw (le-ltb i j l) (List·getD-eq-default (tabulate j f) 0 (rw (length-tabulate j f) l))
 
 -- ---- numbers in bytes
 

@@ -55,7 +55,7 @@ given-byte C L content t i h l = byte-table (disks C) L (λ u j. holds C (byteOf
 
 pub encoded-filled : EncodedFilled
 unfolding encoded given filled parities holds
-encoded-filled C L stripe z e =
+encoded-filled C L stripe e =
     tabulate-cong (disks C * L) (λ p. holds C (byteOf L (take (C .k * L) stripe) (p % L)) (p / L)) new
     (λ p l. let q = places (disks C) L p l in
     go p (q .1) (ltb (p / L) (C .k)) (λ t. ltb-out (p / L) (C .k) t)

@@ -1,9 +1,6 @@
 -- The proofs of the statements of specs/Theorems.antt, specs/Rebuilt.antt and specs/Demand3.antt.
 -- Assumes nothing.
-use mathlib.Core.Path.{sym, ap, _∙_}
-use Prim.Native.Nat.{ℕ, _+_, _≤_}
 use native.Mathlib.Omega.{arith}
-use Rattle.gf2.specs.Sets.{size}
 use Rattle.gf2.proofs.Sizes.{one-left-size}
 use Rattle.flat.specs.Cards.{disks}
 use Rattle.flat.specs.Theorems
@@ -17,6 +14,7 @@ use Rattle.flat.proofs.Words.{codeword-⊕}
 use Rattle.flat.proofs.Rows as spans
 use Rattle.flat.proofs.Fatal as fatal
 use Rattle.flat.proofs.Duality as duality
+use Rattle.flat.proofs.Undetermined as unions
 use Rattle.flat.proofs.Order.{sorted-at}
 use Rattle.flat.proofs.ErasuresListed as listed
 use Rattle.flat.proofs.EquationsListed as equated
@@ -61,6 +59,12 @@ undetermined-held = duality.undetermined-held
 
 pub undetermined-untold : Theorems.UndeterminedUntold
 undetermined-untold = duality.undetermined-untold
+
+pub undetermined-union : Theorems.UndeterminedUnion
+undetermined-union C S = (unions.undetermined-set C S, unions.undetermined-union C S)
+
+pub fatal-undetermined : Theorems.FatalUndetermined
+fatal-undetermined = unions.fatal-undetermined
 
 pub erasures-exact : Theorems.ErasuresExact
 erasures-exact C S = (listed.erasures-out C S, λ p. listed.erasures-in C S (p .0) (p .1))

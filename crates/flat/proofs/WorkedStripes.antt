@@ -72,7 +72,7 @@ module _ (a b c : ℕ) where
   c8-stripe =
       let C = codeOf card in
       unless-accepted (rebuildReport card 1 7 (C8 a b c)) (3 ∷ []) (restored C 1 7 (C8 a b c) (agreeing C 1 7 (C8 a b c))) (C8 a b c) c8-answer
-      ∙ restored-filled C 1 7 (C8 a b c) (omega arith) seven not-fatal (some-agreeing C 1 7 (C8 a b c) content content-agrees) ∙ computed
+      ∙ restored-filled C 1 7 (C8 a b c) seven not-fatal (some-agreeing C 1 7 (C8 a b c) content content-agrees) ∙ computed
 
 -- ---- C9
 

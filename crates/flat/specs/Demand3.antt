@@ -76,7 +76,7 @@ abbrev pub Demand3 : Type 0
 Demand3 =
     (card : List ℕ) (k m S L : ℕ) (stripe slice : List ℕ) (slices : ℕ → List ℕ)
     → cardReport card ≡ accepted (k ∷ m ∷ []) → T (setOk (codeOf card) S) → T (lengthOk L)
-    → length stripe ≡ disks (codeOf card) * L → Bytes stripe
+    → length stripe ≡ disks (codeOf card) * L
     → length (erasures (codeOf card)) ≤ length slice
     → ((d : ℕ) → d < disks (codeOf card) → length (equations (codeOf card) d) ≤ length (slices d))
     → OneVerdict card S L stripe slice slices

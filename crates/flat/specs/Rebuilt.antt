@@ -8,7 +8,7 @@ use lib.Dec.{T}
 use lib.ListN.{length}
 use Rattle.gf2.specs.Sets.{has, _⊆_}
 use Rattle.flat.specs.Lists.{Bytes}
-use Rattle.flat.specs.Cards.{Code, codeOf, disks, setOk, column}
+use Rattle.flat.specs.Cards.{Code, codeOf, disks, column}
 use Rattle.flat.specs.Strips.{byteOf, encoded}
 use Rattle.flat.specs.Erasures.{survivors, fatal}
 use Rattle.flat.specs.Equations.{equation}
@@ -19,7 +19,7 @@ use Rattle.flat.specs.Repairs.{filled, parities, consistent, equationAmo
 -- Encoding fills the parity strips, each by its column.
 abbrev pub EncodedFilled : Type 0
 EncodedFilled =
-    (C : Code) (L : ℕ) (stripe : List ℕ) → 0 < L → length stripe ≡ disks C * L
+    (C : Code) (L : ℕ) (stripe : List ℕ) → length stripe ≡ disks C * L
     → encoded C L stripe ≡ filled (C .k) L (λ d. column C (d - C .k)) (parities C) stripe
 
 -- For every set, fatal or not: some content agrees with the survivors exactly where the check words among them vanish.
@@ -31,7 +31,7 @@ ConsistentAgrees =
 -- Where the set is not fatal, at most one content agrees.
 abbrev pub OnlyContent : Type 0
 OnlyContent =
-    (C : Code) (L S : ℕ) (stripe a b : List ℕ) → 0 < L → (T (fatal C S) → ⊥) → length a ≡ C .k * L → length b ≡ C .k * L
+    (C : Code) (L S : ℕ) (stripe a b : List ℕ) → (T (fatal C S) → ⊥) → length a ≡ C .k * L → length b ≡ C .k * L
     → T (agrees C L S stripe a) → T (agrees C L S stripe b) → a ≡ b
 
 -- Where the set is not fatal, each lost disk has an equation among the survivors: the one that `within` leaves.
@@ -43,7 +43,7 @@ EquationLeft =
 -- Where some content agrees and the set is not fatal, rebuilding fills the lost strips, each by its equation.
 abbrev pub RestoredFilled : Type 0
 RestoredFilled =
-    (C : Code) (L S : ℕ) (stripe : List ℕ) → 0 < L → length stripe ≡ disks C * L → (T (fatal C S) → ⊥)
+    (C : Code) (L S : ℕ) (stripe : List ℕ) → length stripe ≡ disks C * L → (T (fatal C S) → ⊥)
     → agreeing C L S stripe ≢ [] → restored C L S stripe (agreeing C L S stripe) ≡ filled (disks C) L (equationAmong C S) S stripe
 
 -- Bytes of lost strips at entry affect neither the answer nor a strip that is rebuilt.

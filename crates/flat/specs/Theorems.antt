@@ -6,10 +6,10 @@ use mathlib.Core.List.{List, [], _∷_, reverse}
 use Prim.Native.Nat.{ℕ, suc, _+_, _^_, _≤_, _<_}
 use lib.Dec.{T}
 use lib.ListN.{length, getD, take}
-use Rattle.gf2.specs.Sets.{has, size, _⊕_, _⊆_, over}
+use Rattle.gf2.specs.Sets.{has, size, _⊕_, _⊆_, union, over}
 use Rattle.gf2.specs.Span.{InSpan, Independent}
 use Rattle.gf2.specs.Within.{within}
-use Rattle.flat.specs.Lists.{Bytes, member, padded, orderedBy}
+use Rattle.flat.specs.Lists.{Bytes, setOf, member, padded, orderedBy}
 use Rattle.flat.specs.Cards.{Code, code, codeOf, disks, setOk, dataPart}
 use Rattle.flat.specs.Erasures.{holdsBit, survivors, fatal, minimalErasure, erasures}
 use Rattle.flat.specs.Equations.{equation, minimalEquation, equations}
@@ -84,6 +84,17 @@ abbrev pub UndeterminedUntold : Type 0
 UndeterminedUntold =
     (C : Code) (S d : ℕ) → d < disks C → T (has S d)
     → T (undetermined C S d) ↔ (((E : ℕ) × T (E ⊆ survivors C S) × T (equation C d E)) → ⊥)
+
+-- The undetermined disks are those that a row left inside the set holds.
+abbrev pub UndeterminedUnion : Type 0
+UndeterminedUnion =
+    (C : Code) (S : ℕ)
+    → (setOf (disks C) (undetermined C S) ≡ union (within S (rows C)))
+    × ((d : ℕ) → d < disks C → T (undetermined C S d) ↔ T (has (union (within S (rows C))) d))
+
+-- A set is fatal exactly where some disk is undetermined.
+abbrev pub FatalUndetermined : Type 0
+FatalUndetermined = (C : Code) (S : ℕ) → T (fatal C S) ↔ (setOf (disks C) (undetermined C S) ≢ 0)
 
 -- ---- the list of minimal erasures
 

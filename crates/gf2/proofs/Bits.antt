@@ -28,7 +28,7 @@ two-cases (suc zero) h = inr refl
 two-cases (suc (suc b)) h = absurd (omega arith)
 
 -- what holds of the four pairs of digits holds of any two
-by-digits : (P : ℕ → ℕ → Type 0) → P 0 0 → P 0 1 → P 1 0 → P 1 1 → (a b : ℕ) → a < 2 → b < 2 → P a b
+pub by-digits : (P : ℕ → ℕ → Type 0) → P 0 0 → P 0 1 → P 1 0 → P 1 1 → (a b : ℕ) → a < 2 → b < 2 → P a b
 by-digits P p q r s zero zero h k = p
 by-digits P p q r s zero (suc zero) h k = q
 by-digits P p q r s (suc zero) zero h k = r

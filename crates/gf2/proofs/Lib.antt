@@ -7,5 +7,6 @@ pub mod Sums
 pub mod Elimination
 pub mod OneRow
 pub mod Sizes
+pub mod Unions
 pub mod Loops
 pub mod Theorems

@@ -5,15 +5,16 @@ use mathlib.Core.List.{List, [], _∷_, _++_, map, append-nil}
 use Prim.Native.Nat.{ℕ, zero, suc, _+_, _≤_, _<_}
 use native.Mathlib.Omega.{arith}
 use native.Mathlib.Numerals.{add-one}
-use lib.Bits.{bitXor}
+use lib.Bits.{bitOr, bitXor}
 use lib.Dec.{T}
 use lib.ListN.{length, getD, take, drop, set, drop-of-length-le}
 use lib.Seq.{drop-cons, getD-take, length-take-le, take-suc-set, append-snoc}
 use Rattle.gf2.specs.If.{if_then_else_}
-use Rattle.gf2.specs.Sets.{has, _∖_, _⊆_, over}
+use Rattle.gf2.specs.Sets.{has, _∖_, _⊆_, _∪_, union, over}
 use Rattle.gf2.specs.Span.{select}
 use Rattle.gf2.specs.Within.{lowest, clear, within}
 use Rattle.gf2.proofs.Elimination.{within-nil, within-kept, within-dropped}
+use Rattle.gf2.proofs.Unions.{zero-∪, ∪-zero, ∪-assoc}
 
 -- ---- cleared_all: f mapped over the first n places
 
@@ -53,14 +54,14 @@ select-end n bs x word e q = e ∙ ap (λ (k : ℕ). over k x (λ i. getD bs i 0
 -- ---- within: the rows left so far, and what `within` makes of the rows still to come, are what it makes of all
 
 -- rows i .. n - 1
-abbrev coming : ℕ → ℕ → List ℕ → List ℕ
+abbrev pub coming : ℕ → ℕ → List ℕ → List ℕ
 coming i n rows = drop i (take n rows)
 
-coming-cons : (i n : ℕ) (rows : List ℕ) → i < n → n ≤ length rows → coming i n rows ≡ getD rows i 0 ∷ coming (suc i) n rows
+pub coming-cons : (i n : ℕ) (rows : List ℕ) → i < n → n ≤ length rows → coming i n rows ≡ getD rows i 0 ∷ coming (suc i) n rows
 coming-cons i n rows h l =
     drop-cons (take n rows) i 0 (rw (length-take-le n rows l) h) ∙ ap (λ (b : ℕ). b ∷ coming (suc i) n rows) (getD-take n rows i 0 h)
 
-coming-none : (n : ℕ) (rows : List ℕ) → n ≤ length rows → coming n n rows ≡ []
+pub coming-none : (n : ℕ) (rows : List ℕ) → n ≤ length rows → coming n n rows ≡ []
 coming-none n rows l = drop-of-length-le (take n rows) {i = n} (omega (arith, length-take-le n rows l))
 
 coming-map : (f : ℕ → ℕ) (i n : ℕ) (rows : List ℕ) → coming i n (map f rows) ≡ map f (coming i n rows)
@@ -103,3 +104,23 @@ pub whole-end : (S n : ℕ) (rows left : List ℕ) (count : ℕ) → n ≤ lengt
 unfolding whole
 whole-end S n rows left count l =
     ap (λ (r : List ℕ). take count left ++ r) (ap (within S) (coming-none n rows l) ∙ within-nil S) ∙ append-nil (take count left)
+
+-- ---- union: the disks held so far, and those of the rows still to come, are those of all
+
+unfoldable pub held-all : ℕ → ℕ → List ℕ → ℕ → ℕ
+held-all n i rows held = held ∪ union (coming i n rows)
+
+pub held-start : (n : ℕ) (rows : List ℕ) → held-all n 0 rows 0 ≡ union (take n rows)
+unfolding held-all
+held-start n rows = zero-∪ (union (take n rows))
+
+pub held-more : (n i : ℕ) (rows : List ℕ) (held : ℕ) → i < n → n ≤ length rows
+    → held-all n (i + 1) rows (bitOr held (getD rows i 0)) ≡ held-all n i rows held
+unfolding held-all union
+held-more n i rows held h l =
+    rw add-one
+    (∪-assoc held (getD rows i 0) (union (coming (suc i) n rows)) ∙ ap (λ (bs : List ℕ). held ∪ union bs) (sym (coming-cons i n rows h l)))
+
+pub held-end : (n : ℕ) (rows : List ℕ) (held : ℕ) → n ≤ length rows → held-all n n rows held ≡ held
+unfolding held-all union
+held-end n rows held l = ap (λ (bs : List ℕ). held ∪ union bs) (coming-none n rows l) ∙ ∪-zero held

@@ -1,13 +1,13 @@
 -- How many disks a set holds, and how many rows `within` must leave: one for each disk outside the set at most is dropped.
 -- Assumes nothing.
-use mathlib.Core.Path.{_≡_, refl, sym, ap, ap₂, _∙_, subst}
-use mathlib.Core.Logic.{_⊎_, inl, inr, _≢_, ⊎-elim}
+use mathlib.Core.Path.{_≡_, sym, ap, ap₂, _∙_, subst}
+use mathlib.Core.Logic.{_⊎_, inl, inr, ⊎-elim}
 use mathlib.Core.List.{List, [], _∷_, map}
-use Prim.Native.Nat.{ℕ, zero, suc, _+_, _-_, _*_, _/_, _%_, _^_, _≤_, _<_}
+use Prim.Native.Nat.{ℕ, _+_, _-_, _*_, _/_, _%_, _^_, _≤_, _<_}
 use native.Mathlib.Nat.{mod-eq-of-lt}
 use native.Mathlib.Omega.{arith}
 use lib.Arith.{bin-ind}
-use lib.Bits.{bitAnd, xor-shr, and-shr, and-mask, and-comm}
+use lib.Bits.{xor-shr, and-shr, and-mask, and-comm}
 use lib.Count.{ones, ones-step, ones-cat, ones-ones, ones-le}
 use lib.Dec.{T}
 use lib.ListN.{length, length-map}
@@ -19,7 +19,7 @@ use Rattle.gf2.proofs.Tests.{eqb-in, eqb-out}
 use Rattle.gf2.proofs.Bits.{bit-low, bit-cases, bit-⊕, bit-∩, not-has}
 use Rattle.gf2.proofs.Subsets.{⊆-in, ⊆-out, ⊕-out, ∩-out, zero-⊆, ⊆-zero, ∖-in, ∖-out, less-⊆, ⊆-none, none-⊆, power-out, power-⊆, lowest-has}
 use Rattle.gf2.proofs.Spans.{first-in}
-use Rattle.gf2.proofs.Elimination.{clear-is, clear-out, dropped-has, by-rows, within-nil, within-kept, within-dropped}
+use Rattle.gf2.proofs.Elimination.{clear-is, clear-out, dropped-has, by-rows, within-kept, within-dropped}
 
 -- ---- sizes
 
@@ -76,7 +76,7 @@ size-less S d m =
     ap (λ (x : ℕ). size (S ∖ 2 ^ d) + x) (sym (size-power d) ∙ ap size (sym e)) ∙ size-split S (2 ^ d)
 
 -- all disks below n
-all-⊆ : (n S : ℕ) → S < 2 ^ n → T (S ⊆ 2 ^ n - 1)
+pub all-⊆ : (n S : ℕ) → S < 2 ^ n → T (S ⊆ 2 ^ n - 1)
 unfolding _⊆_ _∩_
 all-⊆ n S l = eqb-in (and-mask S n ∙ mod-eq-of-lt l)
 

@@ -2,14 +2,16 @@
 -- Every natural number is a set here; the code's sets have 32 bits.
 -- Assumes nothing.
 use mathlib.Core.Bool.{Bool, not, _&&_}
-use Prim.Native.Nat.{ℕ, zero, suc, _/_, _%_, _^_}
-use lib.Bits.{bitAnd, bitXor}
+use mathlib.Core.List.{List, [], _∷_}
+use Prim.Native.Nat.{ℕ, zero, suc, _-_, _/_, _%_, _^_}
+use lib.Bits.{bitAnd, bitOr, bitXor}
 use lib.Count.{ones}
 use lib.Dec.{eqb}
 use Rattle.gf2.specs.If.{if_then_else_}
 
 infixl 60 _⊕_
 infixl 60 _∖_
+infixl 60 _∪_
 infixl 70 _∩_
 infix 40 _⊆_
 infix 40 _⊂_
@@ -27,9 +29,23 @@ unfoldable pub size : ℕ → ℕ
 unfolding ones
 size S = ones S
 
+-- the disks below n
+unfoldable pub first : ℕ → ℕ
+first n = 2 ^ n - 1
+
 -- the disks that are in both
 unfoldable pub _∩_ : ℕ → ℕ → ℕ
 R ∩ S = bitAnd R S
+
+-- the disks that are in one of the two or in both
+unfoldable pub _∪_ : ℕ → ℕ → ℕ
+R ∪ S = bitOr R S
+
+-- the disks that are in some set of a list
+unfoldable pub union : List ℕ → ℕ
+unfolding _∪_
+union [] = 0
+union (S ∷ Ss) = S ∪ union Ss
 
 -- the disks that are in just one of the two; of bits and bytes, their XOR
 unfoldable pub _⊕_ : ℕ → ℕ → ℕ

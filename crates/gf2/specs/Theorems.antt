@@ -4,9 +4,9 @@ use mathlib.Core.Path.{_≡_}
 use mathlib.Core.Logic.{_↔_}
 use mathlib.Core.List.{List}
 use Prim.Native.Nat.{ℕ, _+_, _^_, _≤_, _<_}
-use lib.Dec.{T}
-use lib.ListN.{length}
-use Rattle.gf2.specs.Sets.{has, size, _⊕_, _⊆_}
+use lib.Dec.{T, ltb}
+use lib.ListN.{length, getD}
+use Rattle.gf2.specs.Sets.{has, size, first, _⊕_, _⊆_, union}
 use Rattle.gf2.specs.Span.{InSpan, Independent, select, Minimal}
 use Rattle.gf2.specs.Within.{within}
 
@@ -17,6 +17,18 @@ Subset = (R S : ℕ) → T (R ⊆ S) ↔ ((i : ℕ) → T (has R i) → T (has S
 -- Two sets with the same disks are one.
 abbrev pub Extensional : Type 0
 Extensional = (R S : ℕ) → ((i : ℕ) → has R i ≡ has S i) → R ≡ S
+
+-- Disk i is in `first n` where it is below n.
+abbrev pub FirstDisks : Type 0
+FirstDisks = (n i : ℕ) → has (first n) i ≡ ltb i n
+
+-- A disk is in the union of some rows where one of them holds it.
+abbrev pub UnionRows : Type 0
+UnionRows = (bs : List ℕ) (d : ℕ) → T (has (union bs) d) ↔ ((i : ℕ) × (i < length bs) × T (has (getD bs i 0) d))
+
+-- And where some word of their span holds it: the union of the rows is that of the span.
+abbrev pub UnionSpan : Type 0
+UnionSpan = (bs : List ℕ) (d : ℕ) → T (has (union bs) d) ↔ ((w : ℕ) × InSpan bs w × T (has w d))
 
 -- What x ⊕ y selects is what x selects, XORed with what y selects.
 abbrev pub SelectLinear : Type 0

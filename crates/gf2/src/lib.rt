@@ -9,7 +9,7 @@ ghost use Prim.Native.Nat.{_^_, _≤_, _<_};
 ghost use lib.Dec.{ltb};
 ghost use lib.ListN.{take};
 ghost use Rattle.gf2.specs.If.{if_then_else_};
-ghost use Rattle.gf2.specs.Sets.{has, size, _⊆_, _∖_};
+ghost use Rattle.gf2.specs.Sets.{has, size, first, _⊆_, _∖_, union};
 ghost use Rattle.gf2.specs.Span.{select};
 ghost use Rattle.gf2.specs.Within.{lowest, clear, within};
 
@@ -43,6 +43,14 @@ pub fn below(set: u32, n: u32) -> bool
         return true;
     }
     set < 1u32 << n
+}
+
+// The disks below n.
+pub fn first(n: u32) -> u32
+    requires { ⌜ (1 ≤ n) × (n ≤ 32) ⌝ }
+    ensures { λ r. ⌜ r ≡ first n ⌝ }
+{
+    u32::MAX >> (32 - n)
 }
 
 // Whether every disk of r is in s.
@@ -125,4 +133,18 @@ pub fn within(basis: Basis, set: u32) -> Basis
         }
     }
     Basis { rows: left, count }
+}
+
+// The disks that some row of the basis holds: those that some word of its span holds.
+pub fn union(basis: Basis) -> u32
+    requires { ⌜ basis .count ≤ 16 ⌝ }
+    ensures { λ r. ⌜ r ≡ union (take (basis .count) (basis .rows)) ⌝ }
+{
+    let count = basis.count;
+    let rows = basis.rows;
+    let mut held = 0;
+    for i in 0..count {
+        held = held | rows[i];
+    }
+    held
 }
