@@ -56,14 +56,36 @@ static uint8_t arena[GUARD + SHIFTS + LARGEST_STRIPE + 1 + GUARD], expected[size
 static uint64_t tried[2][13]; /* encoding, rebuilding; by number */
 static const char *part = "start";
 
-static void differ(const struct call *c, const char *what, uint64_t here, uint64_t engine, uint64_t reference)
+/* ends the program with a line that names the input */
+static void differ(const struct call *c, const char *what, uint64_t engine, uint64_t wanted)
 {
-    fprintf(stderr, "stripes_test: %s, %s: %s %llu is %llu, the reference says %llu; card", part, c->rebuilds ? "rebuild" : "encode", what,
-            (unsigned long long)here, (unsigned long long)engine, (unsigned long long)reference);
+    fprintf(stderr, "stripes_test: %s, %s: %s: %llu, and %llu is wanted; card", part, c->rebuilds ? "rebuild" : "encode", what,
+            (unsigned long long)engine, (unsigned long long)wanted);
     for (size_t i = 0; i < c->card_len && i < 34; i++)
         fprintf(stderr, " %02x", c->card[i]);
     fprintf(stderr, " (%zu bytes), strip_len %zu, lost 0x%08x, stripe_len %zu\n", c->card_len, c->strip_len, (unsigned)c->lost, c->stripe_len);
     exit(1);
+}
+
+static void same_answer(const struct call *c, uint64_t engine, uint64_t wanted)
+{
+    if (BRIDGECRUMB_NUMBER(engine) != BRIDGECRUMB_NUMBER(wanted))
+        differ(c, "the answer's number", BRIDGECRUMB_NUMBER(engine), BRIDGECRUMB_NUMBER(wanted));
+    if (engine != wanted)
+        differ(c, "the answer's value", BRIDGECRUMB_VALUE(engine), BRIDGECRUMB_VALUE(wanted));
+}
+
+/* the stripe begins after `before` bytes, and may have changed together with the guards */
+static void same_bytes(const struct call *c, const uint8_t *engine, const uint8_t *wanted, size_t before)
+{
+    char what[60];
+    size_t at = 0;
+    if (memcmp(engine, wanted, before + c->stripe_len + GUARD) == 0)
+        return;
+    while (engine[at] == wanted[at])
+        at++;
+    snprintf(what, sizeof what, "byte %lld counted from the stripe's beginning", (long long)at - (long long)before);
+    differ(c, what, engine[at], wanted[at]);
 }
 
 static uint64_t engine_answer(const struct call *c, const uint8_t *card, uint8_t *stripe)
@@ -91,14 +113,10 @@ static uint64_t try_call(const struct call *c, const uint8_t **after)
     memset(arena + before + c->stripe_len, 0x5a, GUARD);
     memcpy(expected, arena, whole);
     uint64_t reference = reference_answer(c, expected + before), engine = engine_answer(c, card, arena + before);
-    if (engine != reference)
-        differ(c, "the answer's number and value at", 0, engine, reference);
-    if (memcmp(arena, expected, whole) != 0)
-        for (size_t t = 0; t < whole; t++)
-            if (arena[t] != expected[t])
-                differ(c, t < before ? "a guard before the stripe, byte" : "stripe's byte", t < before ? t : t - before, arena[t], expected[t]);
+    same_answer(c, engine, reference);
+    same_bytes(c, arena, expected, before);
     if (memcmp(card, c->card, sizeof card) != 0)
-        differ(c, "the card has changed at", 0, 1, 0);
+        differ(c, "bytes of the card that changed", 1, 0);
     tried[c->rebuilds][BRIDGECRUMB_NUMBER(reference)]++;
     if (after != NULL)
         *after = expected + before;

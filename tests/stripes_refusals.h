@@ -72,11 +72,8 @@ static struct call call_of(const struct refusal *r)
 static void expect_refusal(const struct refusal *r)
 {
     struct call c = call_of(r);
-    for (c.rebuilds = 0; c.rebuilds < 2; c.rebuilds++) {
-        uint64_t answer = try_call(&c, NULL), named = c.rebuilds ? r->rebuilding : r->encoding;
-        if (answer != named)
-            differ(&c, "the answer named in the table at", 0, answer, named);
-    }
+    for (c.rebuilds = 0; c.rebuilds < 2; c.rebuilds++)
+        same_answer(&c, try_call(&c, NULL), c.rebuilds ? r->rebuilding : r->encoding);
 }
 
 /* the card of a row with other strip lengths and sets, on a stripe of the right length, one less and one more */

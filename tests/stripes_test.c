@@ -12,8 +12,10 @@
 static void expect(const struct call *c, uint64_t answer, const char *bytes)
 {
     const uint8_t *after;
-    if (try_call(c, &after) != answer || memcmp(after, bytes, c->stripe_len) != 0)
-        differ(c, "the worked code's answer at", 0, 1, 0);
+    same_answer(c, try_call(c, &after), answer);
+    for (size_t t = 0; t < c->stripe_len; t++)
+        if (after[t] != (uint8_t)bytes[t])
+            differ(c, "a byte of the worked code", after[t], (uint8_t)bytes[t]);
 }
 
 static void worked_codes(void)
@@ -136,7 +138,7 @@ static uint32_t random_set(int n, int size)
     return set;
 }
 
-/* a byte of a strip that is not lost: at its end, at its begin or anywhere */
+/* a byte of a strip that is not lost: first, last or anywhere */
 static size_t survivors_byte(const struct call *c)
 {
     uint32_t disk = below(disks(c)), where = below(4);
@@ -203,8 +205,7 @@ static void every_strip_len(void)
         set_strip_len(&c, strip_len);
         encode_random(&c);
         junk_lost_strips(&c);
-        if (try_call(&c, NULL) != 3 * 256)
-            differ(&c, "restored disks at", 0, 0, 3);
+        same_answer(&c, try_call(&c, NULL), 3 * 256);
         for (int d = 0; d < 15; d++)
             try_spoiled(&c, d * strip_len + strip_len - 1, 0x80);
     }
