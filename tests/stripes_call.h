@@ -78,7 +78,7 @@ static void same_answer(const struct call *c, uint64_t engine, uint64_t wanted)
 /* the stripe begins after `before` bytes, and may have changed together with the guards */
 static void same_bytes(const struct call *c, const uint8_t *engine, const uint8_t *wanted, size_t before)
 {
-    char what[60];
+    char what[80];
     size_t at = 0;
     if (memcmp(engine, wanted, before + c->stripe_len + GUARD) == 0)
         return;

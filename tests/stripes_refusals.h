@@ -69,11 +69,22 @@ static struct call call_of(const struct refusal *r)
     return c;
 }
 
-static void expect_refusal(const struct refusal *r)
+static void expect_row(const struct refusal *r)
 {
     struct call c = call_of(r);
     for (c.rebuilds = 0; c.rebuilds < 2; c.rebuilds++)
         same_answer(&c, try_call(&c, NULL), c.rebuilds ? r->rebuilding : r->encoding);
+}
+
+/* a card with 256 zeros behind it: its length is right in its lowest byte */
+static void padded_card(void)
+{
+    static const struct refusal good = {C1, 8, 1, 7, 7, 0, 256 * 3};
+    struct call c = call_of(&good);
+    expect_row(&good);
+    c.card_len += 256;
+    for (c.rebuilds = 0; c.rebuilds < 2; c.rebuilds++)
+        same_answer(&c, try_call(&c, NULL), 4);
 }
 
 /* the card of a row with other strip lengths and sets, on a stripe of the right length, one less and one more */
@@ -98,9 +109,10 @@ static void all_refusals(void)
     part = "refusals";
     fill(entry, sizeof entry);
     for (size_t r = 0; r < sizeof refusals / sizeof *refusals; r++) {
-        expect_refusal(&refusals[r]);
+        expect_row(&refusals[r]);
         mixtures(&refusals[r]);
     }
+    padded_card();
 }
 
 #endif
