@@ -4,7 +4,7 @@
 #include "stripes_call.h"
 #include "stripes_refusals.h"
 
-#define SMALL_DISKS 5
+#define SMALL_DISKS 6
 #define RANDOM_CARDS 5000
 
 /* ---- worked codes of document 01 */
