@@ -26,4 +26,14 @@ uint64_t bridgecrumb_list(const uint8_t *card, size_t card_len, uint32_t *out, s
  * disk that the code lacks; number 10 has the count that is needed. */
 uint64_t bridgecrumb_equations(const uint8_t *card, size_t card_len, size_t disk, uint32_t *out, size_t out_len);
 
+/* Each parity strip of the stripe becomes, byte by byte, the XOR of the strips of its data disks. Disk
+ * i's strip begins at byte i * strip_len. No value; number 6 is a strip_len outside 1 to 65,536; number
+ * 7 is a stripe of another length than strip_len for each disk. */
+uint64_t bridgecrumb_encode(const uint8_t *card, size_t card_len, size_t strip_len, uint8_t *stripe, size_t stripe_len);
+
+/* The strips of the lost disks become those that the survivors tell. The value is how many are lost.
+ * Numbers 6 and 7 are those of the encoder; number 8 is a set with a disk that the code lacks; number
+ * 11 is a set whose loss is fatal; number 12 is survivors that no encoded stripe has. */
+uint64_t bridgecrumb_rebuild(const uint8_t *card, size_t card_len, size_t strip_len, uint32_t lost, uint8_t *stripe, size_t stripe_len);
+
 #endif

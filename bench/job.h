@@ -1,0 +1,26 @@
+/* One stripe with its card: what engine and peers get alike. */
+#ifndef JOB_H
+#define JOB_H
+
+#include <stddef.h>
+#include <stdint.h>
+
+struct job {
+    uint8_t card[34];
+    size_t card_len, strip_len;
+    uint8_t *stripe;
+    size_t stripe_len;
+    uint32_t lost; /* data disks only */
+};
+
+static inline uint32_t job_column(const struct job *job, int j)
+{
+    return job->card[2 + 2 * j] + 256u * job->card[3 + 2 * j];
+}
+
+static inline uint8_t *job_strip(const struct job *job, int disk)
+{
+    return job->stripe + disk * job->strip_len;
+}
+
+#endif

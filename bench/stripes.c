@@ -1,0 +1,279 @@
+/* The encoder and the rebuilder beside peers: plain C (plain.c), liberasurecode's flat XOR kernel and API, and ISA-L (libraries.c).
+ *
+ * Each is first held to the bytes of the plain loop, then all take turns on the same stripe in this process, and the best time
+ * of each counts. A ratio is the peer's time by the engine's: above 1 the engine is faster.
+ */
+#include <stdio.h>
+#include <string.h>
+#include <time.h>
+
+#include "bridgecrumb.h"
+#include "libraries.h"
+#include "plain.h"
+
+#define ROUNDS 60
+#define LARGEST_STRIPE (32 * 65536)
+#define PEERS 5
+
+static uint8_t stripe[LARGEST_STRIPE] __attribute__((aligned(64)));
+static uint8_t right[LARGEST_STRIPE];
+
+/* ---- the cards */
+
+static uint64_t seed = 0x9e3779b97f4a7c15;
+
+static uint32_t pseudo_random(void) /* xorshift64 */
+{
+    seed ^= seed << 13;
+    seed ^= seed >> 7;
+    seed ^= seed << 17;
+    return (uint32_t)(seed >> 32);
+}
+
+static void fill(uint8_t *bytes, size_t count)
+{
+    for (size_t t = 0; t < count; t++)
+        bytes[t] = pseudo_random() & 255;
+}
+
+static void start_card(struct job *job, int k, int m)
+{
+    job->card[0] = k;
+    job->card[1] = m;
+    job->card_len = 2 + 2 * (size_t)m;
+}
+
+static void put_column(struct job *job, int j, uint32_t column)
+{
+    job->card[2 + 2 * j] = column & 255;
+    job->card[3 + 2 * j] = column >> 8;
+}
+
+/* each column has every data disk */
+static void ones(struct job *job, int k, int m)
+{
+    start_card(job, k, m);
+    for (int j = 0; j < m; j++)
+        put_column(job, j, ((uint32_t)1 << k) - 1);
+}
+
+/* each bit of each column by a coin; at least two data disks in each, and data disks 0 and 1 can be lost together */
+static void coins(struct job *job, int k, int m)
+{
+    do {
+        start_card(job, k, m);
+        for (int j = 0; j < m; j++) {
+            uint32_t column;
+            do
+                column = pseudo_random() & (((uint32_t)1 << k) - 1);
+            while ((column & (column - 1)) == 0);
+            put_column(job, j, column);
+        }
+    } while (bridgecrumb_verdict(job->card, job->card_len, 3) != 0);
+}
+
+/* ---- the contestants */
+
+typedef void (*contestant)(struct job *job);
+
+static void engine_encode(struct job *job)
+{
+    if (bridgecrumb_encode(job->card, job->card_len, job->strip_len, job->stripe, job->stripe_len) != 0)
+        stop("the encoder refuses");
+}
+
+static void engine_rebuild(struct job *job)
+{
+    if (BRIDGECRUMB_NUMBER(bridgecrumb_rebuild(job->card, job->card_len, job->strip_len, job->lost, job->stripe, job->stripe_len)) != 0)
+        stop("the rebuilder refuses");
+}
+
+/* a peer's call, and the form of it that leaves its result in the stripe */
+struct peer {
+    const char *name;
+    contestant call, shown;
+};
+
+enum { PLAIN, MULTIPLYING, KERNEL, API, ISAL };
+
+static const struct peer encoders[PEERS] = {
+    {"plain", plain_encode, plain_encode},    {"multiply", multiplying_encode, multiplying_encode},
+    {"kernel", kernel_encode, kernel_encode}, {"API", api_encode, api_encode_shown},
+    {"ISA-L", isal_encode, isal_encode},
+};
+
+static const struct peer rebuilders[PEERS] = {
+    [KERNEL] = {"kernel", kernel_decode, kernel_decode},
+    [API] = {"API", api_decode, api_decode_shown},
+};
+
+/* ---- the bytes */
+
+/* other bytes in the strips that the call writes, then the call: the stripe is right again */
+static void check(struct job *job, const char *name, contestant shown, uint32_t written)
+{
+    for (int d = 0; d < job->card[0] + job->card[1]; d++)
+        if (written >> d & 1)
+            fill(job_strip(job, d), job->strip_len);
+    shown(job);
+    if (memcmp(stripe, right, job->stripe_len) != 0) {
+        fprintf(stderr, "%s, strip length %zu: ", name, job->strip_len);
+        stop("the stripe differs from the plain loop's");
+    }
+}
+
+static void encoded_stripe(struct job *job, size_t strip_len)
+{
+    job->strip_len = strip_len;
+    job->stripe = stripe;
+    job->stripe_len = (size_t)(job->card[0] + job->card[1]) * strip_len;
+    fill(stripe, job->stripe_len);
+    plain_encode(job);
+    memcpy(right, stripe, job->stripe_len);
+}
+
+/* ---- the times */
+
+static double now(void)
+{
+    struct timespec t;
+    clock_gettime(CLOCK_MONOTONIC, &t);
+    return t.tv_sec + t.tv_nsec / 1e9;
+}
+
+static double least_of(double a, double b)
+{
+    return a < b ? a : b;
+}
+
+/* the best of the times so far and that of one more round of calls */
+static double better(double best, struct job *job, contestant call)
+{
+    size_t calls = 1 + 4000000 / (job->strip_len * job->card[0] * job->card[1]);
+    if (calls > 2000)
+        calls = 2000;
+    double start = now();
+    for (size_t c = 0; c < calls; c++)
+        call(job);
+    return least_of(best, (now() - start) / calls);
+}
+
+/* least ratio to each peer, over the rows that count for it */
+static void keep_least(double least[PEERS], const double ratios[PEERS])
+{
+    for (int p = 0; p < PEERS; p++)
+        if (ratios[p] > 0)
+            least[p] = least_of(least[p], ratios[p]);
+}
+
+static void print_row(const char *name, const struct job *job, double engine, const double ratios[PEERS])
+{
+    printf("%-24s %3d %3d %6zu %8.2f", name, job->card[0], job->card[1], job->strip_len, job->card[0] * job->strip_len / engine / 1e9);
+    for (int p = 0; p < PEERS; p++)
+        if (ratios[p] > 0)
+            printf(" %8.2f", ratios[p]);
+        else
+            printf(" %8s", "-");
+    printf("\n");
+    fflush(stdout);
+}
+
+struct race {
+    const char *name;
+    contestant engine;
+    const struct peer *peers;
+    unsigned among;   /* bit p: peer p takes part */
+    uint32_t written; /* the disks that the calls write */
+};
+
+/* checks engine and peers, lets them take turns, prints the row; a peer that takes no part has the ratio 0 */
+static void run(const struct race *race, struct job *job, double ratios[PEERS])
+{
+    double engine = 1e9, best[PEERS] = {1e9, 1e9, 1e9, 1e9, 1e9};
+    check(job, "engine", race->engine, race->written);
+    for (int p = 0; p < PEERS; p++)
+        if (race->among >> p & 1)
+            check(job, race->peers[p].name, race->peers[p].shown, race->written);
+    for (int round = 0; round < ROUNDS; round++) {
+        engine = better(engine, job, race->engine);
+        for (int p = 0; p < PEERS; p++)
+            if (race->among >> p & 1)
+                best[p] = better(best[p], job, race->peers[p].call);
+    }
+    for (int p = 0; p < PEERS; p++)
+        ratios[p] = race->among >> p & 1 ? best[p] / engine : 0;
+    print_row(race->name, job, engine, ratios);
+}
+
+/* ---- the rows */
+
+static void print_head(const char *name)
+{
+    printf("%-24s %3s %3s %6s %8s", name, "k", "m", "L", "GB/s");
+    for (int p = 0; p < PEERS; p++)
+        printf(" %8s", encoders[p].name);
+    printf("\n");
+}
+
+/* one row for a strip length; keeps the least ratios */
+static void print_race(const struct race *race, struct job *job, size_t strip_len, double least[PEERS])
+{
+    double ratios[PEERS];
+    encoded_stripe(job, strip_len);
+    libraries_open(job, race->among >> API & 1);
+    run(race, job, ratios);
+    libraries_close();
+    keep_least(least, ratios);
+}
+
+/* the libraries take part where strips are aligned as they need it, the API on its own code */
+static void encode_rows(const char *name, struct job *job, int own, double least[PEERS])
+{
+    static const size_t strip_lens[] = {4096, 65536, 1, 16, 100, 1000};
+    uint32_t parities = (uint32_t)((((uint64_t)1 << job->card[1]) - 1) << job->card[0]);
+    struct race race = {name, engine_encode, encoders, 0, parities};
+    for (int l = 0; l < 6; l++) {
+        race.among = 1u << PLAIN | 1u << MULTIPLYING;
+        if (l < 2)
+            race.among |= 1u << KERNEL | 1u << ISAL | (unsigned)own << API;
+        print_race(&race, job, strip_lens[l], least);
+    }
+}
+
+static void rebuild_rows(const char *name, struct job *job, int own, uint32_t lost, double least[PEERS])
+{
+    struct race race = {name, engine_rebuild, rebuilders, 1u << KERNEL | (unsigned)own << API, lost};
+    job->lost = lost;
+    print_race(&race, job, 4096, least);
+    print_race(&race, job, 65536, least);
+}
+
+int main(void)
+{
+    static struct job dense[4], own;
+    static const char *const names[] = {"all ones", "all ones", "by a coin", "by a coin"};
+    double of_dense[PEERS] = {1e9, 1e9, 1e9, 1e9, 1e9}, of_own[PEERS] = {1e9, 1e9, 1e9, 1e9, 1e9}, of_rebuild[PEERS] = {1e9, 1e9, 1e9, 1e9, 1e9};
+    ones(&dense[0], 10, 4);
+    ones(&dense[1], 16, 16);
+    coins(&dense[2], 10, 4);
+    coins(&dense[3], 16, 16);
+    own_card(&own);
+    print_head("encode, columns");
+    for (int c = 0; c < 4; c++)
+        encode_rows(names[c], &dense[c], 0, of_dense);
+    encode_rows("liberasurecode's own", &own, 1, of_own);
+    print_head("rebuild, lost disks");
+    rebuild_rows("own, 1 data disk", &own, 1, 1, of_rebuild);
+    rebuild_rows("own, 2 data disks", &own, 1, 3, of_rebuild);
+    rebuild_rows("all ones, 1 data disk", &dense[0], 0, 1, of_rebuild);
+    rebuild_rows("by a coin, 1 data disk", &dense[2], 0, 1, of_rebuild);
+    rebuild_rows("by a coin, 2 data disks", &dense[2], 0, 3, of_rebuild);
+    printf("best of %d rounds each; every row's bytes are the plain loop's; the engine is at least this many times as fast as\n", ROUNDS);
+    printf("  liberasurecode's kernel, encoding by dense columns:  %.2f\n", of_dense[KERNEL]);
+    printf("  liberasurecode's kernel, encoding by its own code:   %.2f\n", of_own[KERNEL]);
+    printf("  the plain loop, encoding, over all strip lengths:    %.2f\n", least_of(of_dense[PLAIN], of_own[PLAIN]));
+    printf("  the multiplying loop, over all strip lengths:        %.2f\n", least_of(of_dense[MULTIPLYING], of_own[MULTIPLYING]));
+    printf("  liberasurecode's kernel, rebuilding:                 %.2f\n", of_rebuild[KERNEL]);
+    printf("  liberasurecode's API, rebuilding:                    %.2f\n", of_rebuild[API]);
+    return 0;
+}
