@@ -1,6 +1,6 @@
 -- The bytes of a stripe by disk and place, the stripe that a content gives, and encoding as filling.
 -- Assumes nothing.
-use mathlib.Core.Path.{_≡_, sym, ap, ap₂, _∙_}
+use mathlib.Core.Path.{_≡_, refl, sym, ap, ap₂, _∙_}
 use mathlib.Core.Bool.{Bool, true, false, not}
 use mathlib.Core.List.{List}
 use Prim.Native.Nat.{ℕ, zero, suc, _+_, _-_, _*_, _/_, _%_, _<_}
@@ -8,7 +8,7 @@ use native.Mathlib.Nat.{mod-lt, zero-lt-suc, div-lt-iff-lt-mul, div-add-mod'}
 use native.Mathlib.Omega.{arith}
 use lib.Arith.{digits-lt, digits-div, digits-mod}
 use lib.Dec.{T, ltb}
-use lib.ListN.{getD, take}
+use lib.ListN.{length, getD, take}
 use lib.Seq.{getD-take}
 use Rattle.gf2.specs.If.{if_then_else_}
 use Rattle.gf2.specs.Sets.{has, over}
@@ -73,3 +73,18 @@ encoded-filled C L stripe e =
     go p h false l =
         over-cong (C .k) (column C (p / L - C .k)) (byteOf L (take (C .k * L) stripe) (p % L)) (byteOf L stripe (p % L))
         (λ d m t. byte-take (C .k) L stripe (p % L) d h m)
+
+-- filling goes by the sets of the disks that are filled
+pub filled-cong : (n L : ℕ) (E F : ℕ → ℕ) (S : ℕ) (stripe : List ℕ) → ((d : ℕ) → T (has S d) → E d ≡ F d) → filled n L E S stripe ≡ filled n L F S stripe
+unfolding filled
+filled-cong n L E F S stripe h =
+    tabulate-cong (length stripe) (by E) (by F) (λ p l. go p (has S (p / L)) (h (p / L)))
+  where
+    by : (ℕ → ℕ) → ℕ → ℕ
+    by G p = if has S (p / L) then over n (G (p / L)) (byteOf L stripe (p % L)) else getD stripe p 0
+
+    go : (p : ℕ) (b : Bool) → (T b → E (p / L) ≡ F (p / L))
+        → (if b then over n (E (p / L)) (byteOf L stripe (p % L)) else getD stripe p 0)
+        ≡ (if b then over n (F (p / L)) (byteOf L stripe (p % L)) else getD stripe p 0)
+    go p true e = ap (λ (G : ℕ). over n G (byteOf L stripe (p % L))) (e tt)
+    go p false e = refl

@@ -1,0 +1,115 @@
+-- `encoder::encode` meets its contract. Assumes nothing.
+use mathlib.Core.Path.{_≡_, refl, sym, ap, _∙_}
+use mathlib.Core.Bool.{true}
+use mathlib.Core.List.{List}
+use Prim.Native.Nat.{ℕ, _+_, _*_, _≤_}
+use native.Mathlib.Omega.{arith}
+use borrow.Author.Tests.{not-true, not-false}
+use denote.Ref.{now}
+use lib.ListN.{length}
+use Rattle.flat.specs.Strips.{lengthOk}
+use Rattle.card.specs.Reports.{checkReport}
+use Rattle.card.proofs.Laws.{rest}
+use Rattle.card.proofs.Callers.{GoodCard, good}
+use Rattle.strips.proofs.Lengths.{length-in, stripe-small}
+use Rattle.encoder.proofs.Answered.{stripe-kept, bad-report, bad-stripe, long-report, other-report, good-report, good-stripe}
+use borrow.Author.Needs.{needs}
+use Rattle.encoder.proofs.encode.Statement.{statement}
+use Rattle.encoder.proofs.encode.Tie as tie
+
+check-requires : tie.Need-check-requires
+check-requires c κs = search needs
+
+enum-known-fault : tie.Need-enum-known-fault
+enum-known-fault c = search needs
+
+enum-known-k : tie.Need-enum-known-k
+enum-known-k c = search needs
+
+-- where the check found the card good
+abbrev start : tie.After-known-told2 → tie.Start
+start c = c .before .before .before .before .before .before
+
+known : (c : tie.After-known-told2) → GoodCard (now (start c .args .card)) (c .before .k .given .0 .0) (c .before .k .given .0 .1 .0)
+known c = good _ _ _ (ap checkReport (sym (c .before .k .given .1)) ∙ c .before .before .before .check .ensures)
+
+length-ok-requires : tie.Need-length-ok-requires
+length-ok-requires c κs = search needs
+
+returns : tie.Need-returns
+returns c =
+    let g = known (c .before .before) in
+    let e = long-report _ _ _ _ _ g (sym (c .before .length-ok .ensures) ∙ not-true _ (c .if1 .taken)) in
+    (e, stripe-kept _ _ _ _ _ e)
+
+-- and the strips' length good
+fits : (c : tie.Else1) → lengthOk (start (c .before .before) .args .l) ≡ true
+fits c = sym (c .before .length-ok .ensures) ∙ not-false _ (c .if1 .left)
+
+add-if2 : tie.Need-add-if2
+add-if2 c = let g = known (c .before .before) in omega (arith, g .k-in, g .m-in)
+
+mul-if2 : tie.Need-mul-if2
+mul-if2 c =
+    let g = known (c .before .before) in
+    let at = c .before .before in
+    let n : at .before .k .given .0 .0 + at .before .k .given .0 .1 .0 ≤ 32 = omega (arith, g .k-in, g .m-in) in
+    record { fits = omega (arith, stripe-small _ (start at .args .l) n (length-in _ (fits c) .1)) }
+
+returns-2 : tie.Need-returns-2
+returns-2 c =
+    let g = known (c .before .before .before) in
+    let e = other-report _ _ _ _ _ g (fits (c .before)) (c .if2 .taken) in
+    (e, stripe-kept _ _ _ _ _ e)
+
+sub-encode-columns : tie.Need-sub-encode-columns
+sub-encode-columns c = omega (arith, known (c .before .before .before) .size)
+
+part-encode-columns-start : tie.Need-part-encode-columns-start
+part-encode-columns-start c = omega (arith, known (c .before .before .before) .size)
+
+part-encode-columns-end : tie.Need-part-encode-columns-end
+part-encode-columns-end c = search needs
+
+encode-columns-requires : tie.Need-encode-columns-requires
+encode-columns-requires c κs =
+    let e = c .before .before in
+    let g = known (e .before .before .before) in
+    (g .k-in .0, g .k-in .1, g .m-in .1, rw rest (omega (arith, g .columns)), length-in _ (fits (e .before)) .0, sym (e .if2 .left))
+
+returns-3 : tie.Need-returns-3
+returns-3 c =
+    let e = ap checkReport (sym (c .before .fault .given .1)) ∙ c .before .before .before .check .ensures in
+    let f = c .before .fault .given .0 .0 in
+    (bad-report _ _ f e _, bad-stripe _ _ f e _)
+
+same-length : tie.Need-same-length
+same-length c = search needs
+
+returns-4 : tie.Need-returns-4
+returns-4 c =
+    let v = c .before .before .encode-columns in
+    let l = c .before .before .before .before .before in
+    let g = known (l .before .before .before) in
+    let e = good-report _ _ _ _ _ g (fits (l .before)) (l .if2 .left) in
+    (e, v .ensures ∙ rw rest (good-stripe _ _ _ _ _ g e))
+
+pub encode-spec : {M : Type 1} → statement M
+encode-spec =
+    tie.close
+    (tie.spec
+    check-requires
+    enum-known-fault
+    enum-known-k
+    length-ok-requires
+    returns
+    add-if2
+    mul-if2
+    returns-2
+    sub-encode-columns
+    part-encode-columns-start
+    part-encode-columns-end
+    encode-columns-requires
+    returns-3
+    same-length
+    returns-4)
