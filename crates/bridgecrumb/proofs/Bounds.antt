@@ -3,7 +3,7 @@
 use mathlib.Core.Path.{_≡_, refl, ap}
 use mathlib.Core.Bool.{Bool, true, false, not, false≢true}
 use mathlib.Core.List.{List, [], _∷_, map}
-use Prim.Native.Nat.{ℕ, zero, suc, _+_, _-_, _^_, _≤_, _<_}
+use Prim.Native.Nat.{ℕ, zero, suc, _+_, _-_, _*_, _^_, _≤_, _<_}
 use native.Mathlib.Omega.{arith}
 use borrow.Author.Tests.{ltb-true, leb-true, leb-false, eqb-true, not-false}
 use lib.Dec.{leb, ltb, eqb}
@@ -15,10 +15,11 @@ use Rattle.gf2.specs.Span.{select}
 use Rattle.gf2.specs.Within.{within}
 use Rattle.flat.specs.Lists.{range, filter, each, orderedBy}
 use Rattle.flat.specs.Cards.{Code, disks, setOk, countOk, firstBad, codeOf, cardLength}
+use Rattle.flat.specs.Strips.{lengthOk}
 use Rattle.flat.specs.Erasures.{fatal, erasures}
 use Rattle.flat.specs.Equations.{equations}
 use Rattle.flat.specs.Spans.{rows, checks, selectors, erasuresByWord, equationsByParities}
-use Rattle.flat.specs.Faults.{Report, accepted, refused, yesNo, unlessRefused, codeReport, cardReport, withCard, verdictReport, listReport, erasuresReport, equationsReport}
+use Rattle.flat.specs.Faults.{Report, accepted, refused, yesNo, unlessRefused, codeReport, cardReport, withCard, encodeReport, verdictReport, listReport, erasuresReport, equationsReport}
 use Rattle.flat.proofs.Rows.{rows-length, checks-length}
 use Rattle.flat.proofs.Cards.{count-in}
 use Rattle.flat.proofs.ErasuresListed.{erasures-enumerated}
@@ -150,6 +151,12 @@ with-value : (card : List ℕ) (answer : Code → Report)
     → value (withCard card answer) < 65536
 unfolding withCard unlessRefused
 with-value card answer h = pick (eqb (cardReport card .number) 0) _ _ (λ e. h (accepted-small card e)) (λ _. card-value card)
+
+pub encode-value : (card : List ℕ) (L n : ℕ) → value (encodeReport card L n) < 65536
+unfolding encodeReport
+encode-value card L n =
+    with-value card (λ C. if not (lengthOk L) then refused 6 [] else if not (eqb n (disks C * L)) then refused 7 [] else accepted [])
+    (λ _. pick (not (lengthOk L)) _ _ (λ _. omega arith) (λ _. pick (not (eqb n (disks (codeOf card) * L))) _ _ (λ _. omega arith) (λ _. omega arith)))
 
 verdict-answer : (C : Code) (S : ℕ) → value (if not (setOk C S) then refused 8 [] else accepted (yesNo (fatal C S) ∷ [])) < 65536
 unfolding yesNo

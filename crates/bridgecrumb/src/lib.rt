@@ -1,4 +1,5 @@
-// The static library for C and Rust: the verdict call, the lister and the equation call, exported.
+// The static library for C and Rust: the encoder, the verdict call, the lister and the equation call,
+// exported.
 //
 // An answer is one number: the report's number, 0 where the call is accepted, and 256 times the value
 // that the report names, if it names one. A slice is passed as a pointer and a count. Every byte
@@ -6,12 +7,14 @@
 ghost use mathlib.Core.Path.{_≡_};
 ghost use Prim.Native.Nat.{_+_, _*_, _<_};
 ghost use lib.ListN.{length};
-ghost use Rattle.flat.specs.Faults.{unlessRefused, verdictReport, erasuresReport, erasuresVector, erasuresSlice, equationsReport, equationsSlice};
+ghost use Rattle.flat.specs.Faults.{unlessRefused, encodeReport, encodeStripe, verdictReport, erasuresReport, erasuresVector, erasuresSlice, equationsReport, equationsSlice};
 ghost use Rattle.card.specs.Reports.{faultReport};
 ghost use Rattle.erasures.specs.Reports.{verdictReport as setReport};
 ghost use Rattle.equations.specs.Reports.{toldReport};
+ghost use Rattle.encoder.specs.Reports.{encodedReport};
 ghost use Rattle.bridgecrumb.specs.Coded.{value, coded};
 use card::CardFault;
+use encoder::Encoded;
 use equations::Told;
 use erasures::Listed;
 use erasures::SetVerdict;
@@ -35,6 +38,19 @@ fn fault_code(fault: CardFault) -> u64
         CardFault::ParityCount => 3,
         CardFault::Length => 4,
         CardFault::Column(j) => joined(5, j),
+    }
+}
+
+// The encoder's answer.
+fn encoded_code(encoded: Encoded) -> u64
+    requires { ⌜ value (encodedReport encoded) < 65536 ⌝ }
+    ensures { λ r. ⌜ r ≡ coded (encodedReport encoded) ⌝ }
+{
+    match encoded {
+        Encoded::Done => 0,
+        Encoded::Card(fault) => fault_code(fault),
+        Encoded::StripLength => 6,
+        Encoded::StripeLength => 7,
     }
 }
 
@@ -62,6 +78,16 @@ fn told_code(told: Told) -> u64
         Told::NoDisk => 9,
         Told::Short(count) => joined(10, count),
     }
+}
+
+// The encoder: the parity strips of the stripe, each byte the XOR of the same byte of its data disks. A
+// refused call writes nothing.
+#[no_mangle]
+pub extern "C" fn bridgecrumb_encode(card: &[u8], l: usize, stripe: &mut [u8]) -> u64
+    ensures { λ r. ⌜ r ≡ coded (encodeReport (now (card .entry)) l (length (now (stripe .entry)))) ⌝ }
+    ensures { λ _. ⌜ now (stripe .exit) ≡ encodeStripe (now (card .entry)) l (now (stripe .entry)) ⌝ }
+{
+    encoded_code(encoder::encode(card, l, stripe))
 }
 
 // The verdict call: whether the loss of the set is fatal.

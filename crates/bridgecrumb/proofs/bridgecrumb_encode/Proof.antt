@@ -1,0 +1,30 @@
+-- `bridgecrumb::bridgecrumb_encode` meets its contract. Assumes nothing.
+use mathlib.Core.Path.{sym, ap, _∙_, subst}
+use Prim.Native.Nat.{_<_}
+use borrow.Author.Needs.{needs}
+use denote.Ref.{now}
+use lib.ListN.{length}
+use Rattle.flat.specs.Faults.{Report}
+use Rattle.bridgecrumb.specs.Coded.{value, coded}
+use Rattle.bridgecrumb.proofs.Bounds.{encode-value}
+use Rattle.bridgecrumb.proofs.bridgecrumb_encode.Statement.{statement}
+use Rattle.bridgecrumb.proofs.bridgecrumb_encode.Tie as tie
+
+encode-requires : tie.Need-encode-requires
+encode-requires c κs = search needs
+
+encoded-code-requires : tie.Need-encoded-code-requires
+encoded-code-requires c κs =
+    let a = c .before .before .before .before .before .before .args in
+    subst (λ (r : Report). value r < 65536) (sym (c .before .before .encode .ensures .0)) (encode-value (now (a .card)) (a .l) (length (now (a .stripe))))
+
+same-length : tie.Need-same-length
+same-length c = search needs
+
+returns : tie.Need-returns
+returns c =
+    let l = c .before .before .before .encode in
+    (c .encoded-code .ensures ∙ ap coded (l .ensures .0), l .ensures .1)
+
+pub bridgecrumb-encode-spec : {M : Type 1} → statement M
+bridgecrumb-encode-spec = tie.close (tie.spec encode-requires encoded-code-requires same-length returns)
