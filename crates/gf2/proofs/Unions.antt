@@ -115,7 +115,7 @@ row-union (b ∷ bs) d t =
 
 -- ---- the words of their span
 
--- a word that holds d, and b does not, is one of the later rows' with b XORed in or not
+-- where the first row lacks d, a word with it holds d exactly where the rest of the word does
 pub union-word : (bs : List ℕ) (d w : ℕ) → InSpan bs w → T (has w d) → T (has (union bs) d)
 unfolding union
 union-word [] d w e m = absurd (no-disk d (subst (λ (x : ℕ). T (has x d)) e m))

@@ -26,7 +26,8 @@ use Rattle.flat.proofs.Undetermined.{fatal-undetermined}
 pub undetermined-fatal : (k m : ℕ) (columns : List ℕ) (lost r : ℕ) → r ≡ setOf (k + m) (undetermined (code k m columns) lost)
     → T (fatal (code k m columns) lost) ↔ (r ≢ 0)
 unfolding disks
-undetermined-fatal k m columns lost r e = subst (λ (x : ℕ). T (fatal (code k m columns) lost) ↔ (x ≢ 0)) (sym e) (fatal-undetermined (code k m columns) lost)
+undetermined-fatal k m columns lost r e =
+    subst (λ (x : ℕ). T (fatal (code k m columns) lost) ↔ (x ≢ 0)) (sym e) (fatal-undetermined (code k m columns) lost)
 
 -- the words that `consistency` answers all vanish exactly where the survivors are consistent
 pub vanish-consistent : (C : Code) (L lost : ℕ) (stripe words : List ℕ) → words ≡ within (survivors C lost) (checks C)
@@ -45,7 +46,8 @@ module _ (C : Code) (n lost : ℕ) (table : List ℕ) (fits : n ≤ 32)
       ∙ if-true (ltb d n && has lost d) (equationAmong C lost d) 0 (and-in (ltb d n) (has lost d) (ltb-in l) t)
 
   -- filling by the table is filling by the equations
-  pub filled-table : (L : ℕ) (stripe : List ℕ) → lost < 2 ^ n → filled n L (λ d. getD table d 0) lost stripe ≡ filled n L (equationAmong C lost) lost stripe
+  pub filled-table : (L : ℕ) (stripe : List ℕ) → lost < 2 ^ n
+      → filled n L (λ d. getD table d 0) lost stripe ≡ filled n L (equationAmong C lost) lost stripe
   unfolding filled
   filled-table L stripe b =
       tabulate-cong (length stripe) (by (λ d. getD table d 0)) (by (equationAmong C lost))

@@ -59,7 +59,8 @@ module _ (d n : ℕ) (rows : List ℕ) where
 abbrev pub found : ℕ → List ℕ → ℕ → ℕ
 found left bs d = holder d (within (left ⊕ 2 ^ d) bs) ∖ 2 ^ d
 
-pub found-among : (C : Code) (lost left : ℕ) (bs : List ℕ) (d : ℕ) → left ≡ survivors C lost → bs ≡ checks C → found left bs d ≡ equationAmong C lost d
+pub found-among : (C : Code) (lost left : ℕ) (bs : List ℕ) (d : ℕ) → left ≡ survivors C lost → bs ≡ checks C
+    → found left bs d ≡ equationAmong C lost d
 unfolding equationAmong
 found-among C lost left bs d e q = ap₂ (λ (x : ℕ) (l : List ℕ). found x l d) e q
 

@@ -39,7 +39,8 @@ start c = c .before .before .before .before
 abbrev turn : tie.After-has Inv-loop μ-loop → tie.At-loop Inv-loop μ-loop
 turn c = c .before .before
 
-inside : (c : tie.After-has Inv-loop μ-loop) → (turn c .loop .i < start c .args .basis .count) × (start c .args .basis .count ≤ length (start c .args .basis .rows))
+inside : (c : tie.After-has Inv-loop μ-loop)
+    → (turn c .loop .i < start c .args .basis .count) × (start c .args .basis .count ≤ length (start c .args .basis .rows))
 inside c = (search needs, search needs)
 
 returns : tie.Need-returns Inv-loop μ-loop
