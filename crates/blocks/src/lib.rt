@@ -1,18 +1,24 @@
-// Blocks of 128 bytes: the XOR of the strips of a set of disks, one block at a time. 128 bytes stay in
-// the machine's registers while the strips go by.
+// The XOR of the strips of a set of disks, block by block: 128 bytes, which stay in the machine's
+// registers while the strips go by; 16 bytes for short strips; and one byte.
 //
-// A stripe is here any slice with the strips of n disks in it, l bytes each; where l is below 128 its
-// strips are first widened to 128 bytes.
+// A stripe is here any slice with the strips of n disks in it, l bytes each.
 ghost use mathlib.Core.Path.{_≡_};
-ghost use mathlib.Core.Bool.{_&&_};
-ghost use Prim.Native.Nat.{ℕ, _+_, _*_, _/_, _%_, _<_, _≤_};
-ghost use lib.Dec.{eqb, ltb};
-ghost use lib.ListN.{length, getD, drop};
+ghost use Prim.Native.Nat.{ℕ, _+_, _*_, _<_, _≤_};
+ghost use lib.Dec.{eqb};
+ghost use lib.ListN.{length, getD};
 ghost use lib.Seq.{paste};
 ghost use Rattle.gf2.specs.If.{if_then_else_};
 ghost use Rattle.gf2.specs.Sets.{has, _⊕_, over};
 ghost use Rattle.flat.specs.Lists.{every, tabulate};
 ghost use Rattle.flat.specs.Strips.{byteOf};
+
+mod bytes;
+mod narrow;
+
+pub use bytes::sum_1;
+pub use narrow::is_zero_16;
+pub use narrow::put_16;
+pub use narrow::sum_16;
 
 // The block, XORed with the 128 bytes of the slice from a place on.
 fn added(block: [u8; 128], s: &[u8], at: usize) -> [u8; 128]
@@ -62,16 +68,6 @@ pub fn put(s: &mut [u8], at: usize, block: [u8; 128])
     }
 }
 
-// Puts the first bytes of the block into the slice.
-pub fn put_first(s: &mut [u8], at: usize, block: [u8; 128], count: usize)
-    requires { ⌜ (count ≤ 128) × (at + count ≤ length (now s)) ⌝ }
-    ensures { λ _. ⌜ now (s .exit) ≡ paste (now (s .entry)) at block count ⌝ }
-{
-    for t in 0..count {
-        s[at + t] = block[t];
-    }
-}
-
 // Whether the block has no byte but 0.
 pub fn is_zero(block: [u8; 128]) -> bool
     ensures { λ r. ⌜ r ≡ every 128 (λ t. eqb (getD block t 0) 0) ⌝ }
@@ -81,26 +77,4 @@ pub fn is_zero(block: [u8; 128]) -> bool
         any = any | block[t];
     }
     any == 0
-}
-
-// Copies bytes of one slice from a place on into the other.
-fn copy(out: &mut [u8; 4096], to: usize, s: &[u8], at: usize, count: usize)
-    requires { ⌜ (length (now out) ≡ 4096) × (to + count ≤ 4096) × (at + count ≤ length (now s)) ⌝ }
-    ensures { λ _. ⌜ now (out .exit) ≡ paste (now (out .entry)) to (drop at (now (s .entry))) count ⌝ }
-{
-    for t in 0..count {
-        out[to + t] = s[at + t];
-    }
-}
-
-// The strips of the disks below n, of at most 128 bytes each, widened to 128 bytes by zeros.
-pub fn widened(s: &[u8], l: usize, n: usize) -> [u8; 4096]
-    requires { ⌜ (n ≤ 32) × (l ≤ 128) × (n * l ≤ length (now s)) ⌝ }
-    ensures { λ r. ⌜ r ≡ tabulate 4096 (λ p. if ltb (p / 128) n && ltb (p % 128) l then byteOf l (now (s .entry)) (p % 128) (p / 128) else 0) ⌝ }
-{
-    let mut out = [0u8; 4096];
-    for i in 0..n {
-        copy(&mut out, i * 128, s, i * l, l);
-    }
-    out
 }

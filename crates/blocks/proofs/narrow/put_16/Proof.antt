@@ -1,18 +1,18 @@
--- `blocks::put_first` meets its contract: a copy is made byte by byte.
+-- `blocks::narrow::put_16` meets its contract: a copy is made byte by byte.
 -- Assumes nothing.
 use mathlib.Core.Path.{_≡_, refl}
 use Prim.Native.Nat.{ℕ, _+_, _-_, _≤_}
 use lib.ListN.{length, getD}
 use Rattle.blocks.proofs.Loops.{Copied, copied-none, copied-more, copied-all}
 use borrow.Author.Needs.{needs}
-use Rattle.blocks.proofs.put_first.Statement.{statement}
-use Rattle.blocks.proofs.put_first.Tie as tie
+use Rattle.blocks.proofs.narrow.put_16.Statement.{statement}
+use Rattle.blocks.proofs.narrow.put_16.Tie as tie
 
 abbrev Inv-loop : tie.InvT-loop
-Inv-loop s₀ at count block t₀ s t = (t ≤ count) × Copied s₀ block at t s
+Inv-loop s₀ at block t₀ s t = (t ≤ 16) × Copied s₀ block at t s
 
 abbrev μ-loop : tie.MeasureT-loop
-μ-loop s₀ at count block t₀ s t = count - t
+μ-loop s₀ at block t₀ s t = 16 - t
 
 loop-holds : tie.Need-loop-holds Inv-loop μ-loop
 loop-holds c = (search needs, copied-none _ _ _)
@@ -39,10 +39,10 @@ same-length : tie.Need-same-length Inv-loop μ-loop
 same-length c = c .before .loop .inv .1 .long
 
 returns : tie.Need-returns Inv-loop μ-loop
-returns c = let e : c .before .loop .t ≡ c .before .before .args .count = search needs in copied-all _ _ _ _ _ _ (c .before .loop .inv .1) e
+returns c = let e : c .before .loop .t ≡ 16 = search needs in copied-all _ _ _ _ _ 16 (c .before .loop .inv .1) e
 
-pub put-first-spec : {M : Type 1} → statement M
-put-first-spec =
+pub put-16-spec : {M : Type 1} → statement M
+put-16-spec =
     tie.close
     (tie.spec
     Inv-loop
