@@ -7,10 +7,10 @@ use Prim.Native.Nat.{ℕ, _+_, _-_, _*_, _^_, _≤_, _<_}
 use native.Mathlib.Nat.{add-assoc, add-zero}
 use native.Mathlib.Omega.{arith}
 use lib.Dec.{T}
-use lib.ListN.{length, getD}
-use lib.Seq.{paste, length-paste}
+use lib.ListN.{length, getD, set as set′, length-set}
+use lib.Seq.{paste, length-paste, getD-set-same, getD-set-other}
 use Rattle.gf2.specs.Sets.{has, over}
-use Rattle.gf2.proofs.Tests.{below-or}
+use Rattle.gf2.proofs.Tests.{below-suc, below-or}
 use Rattle.gf2.proofs.Sums.{over-cong}
 use Rattle.flat.specs.Lists.{tabulate}
 use Rattle.flat.specs.Strips.{byteOf}
@@ -53,6 +53,20 @@ written-more s₀ s block a b q n f r h i j fits long e =
         ap (λ (x : ℕ). getD (paste s q block n) x 0) t ∙ pasted-new s q block n room long (p - q) (omega arith) ∙ e (p - q) (omega arith)
         ∙ ap f (sym t)
 
+-- one byte
+pub written-byte : (s₀ s : List ℕ) (a b v : ℕ) (f : ℕ → ℕ) → Written s₀ s a b f → a ≤ b → b < length s₀ → v ≡ f b → Written s₀ (set′ s b v) a (b + 1) f
+written-byte s₀ s a b v f r h fits e =
+    record {
+      long = length-set s b v ∙ r .long;
+      before = λ p l. getD-set-other s b p v 0 (λ q. omega arith) ∙ r .before p l;
+      new = λ p l m. go p l (below-suc p b (omega arith));
+      after = λ p l. getD-set-other s b p v 0 (λ q. omega arith) ∙ r .after p (omega arith);
+    }
+  where
+    go : (p : ℕ) → a ≤ p → (p < b) ⊎ (p ≡ b) → getD (set′ s b v) p 0 ≡ f p
+    go p l (inl m) = getD-set-other s b p v 0 (λ q. omega arith) ∙ r .new p l m
+    go p l (inr q) = ap (λ (x : ℕ). getD (set′ s b v) x 0) q ∙ getD-set-same s b v 0 (let m : b < length s = omega (arith, r .long) in m) ∙ e ∙ ap f (sym q)
+
 -- ---- the strip of disk d, computed from strips of other disks
 
 -- byte p of the slice, where it is in the strip
@@ -77,14 +91,25 @@ module _ (n l set d : ℕ) (s₀ : List ℕ) (other : (i : ℕ) → i < n → T 
               more (inl x) = x
               more (inr x) = absurd (g (let e : i ≡ d = omega arith in e))
 
-  -- one more block of it
-  pub strip-more : (s block : List ℕ) (o q : ℕ) → Written s₀ s (d * l) (d * l + o) (strip n l set d s₀) → q ≤ o → o ≤ q + 128 → q + 128 ≤ l → d * l + l ≤ length s₀
-      → block ≡ tabulate 128 (λ t. over n set (byteOf l s (q + t))) → Written s₀ (paste s (d * l + q) block 128) (d * l) (d * l + (q + 128)) (strip n l set d s₀)
+  -- one more block of it, of any width
+  pub strip-more : (w : ℕ) (s block : List ℕ) (o q : ℕ) → Written s₀ s (d * l) (d * l + o) (strip n l set d s₀) → q ≤ o → o ≤ q + w → q + w ≤ l
+      → d * l + l ≤ length s₀ → block ≡ tabulate w (λ t. over n set (byteOf l s (q + t)))
+      → Written s₀ (paste s (d * l + q) block w) (d * l) (d * l + (q + w)) (strip n l set d s₀)
   unfolding strip
-  strip-more s block o q r h k m fits e =
-      rw (← add-assoc (d * l) q 128)
-      (written-more s₀ s block (d * l) (d * l + o) (d * l + q) 128 (strip n l set d s₀) r (omega arith) (omega arith) (omega arith) (omega arith)
-      (let x : length block ≡ 128 = ap length e ∙ length-tabulate 128 (λ t. over n set (byteOf l s (q + t))) in omega arith)
+  strip-more w s block o q r h k m fits e =
+      rw (← add-assoc (d * l) q w)
+      (written-more s₀ s block (d * l) (d * l + o) (d * l + q) w (strip n l set d s₀) r (omega arith) (omega arith) (omega arith) (omega arith)
+      (let x : length block ≡ w = ap length e ∙ length-tabulate w (λ t. over n set (byteOf l s (q + t))) in omega arith)
       (λ t u. let y : d * l + q + t - d * l ≡ q + t = omega arith in
-      ap (λ (b : List ℕ). getD b t 0) e ∙ getD-tabulate 128 (λ t. over n set (byteOf l s (q + t))) t u
+      ap (λ (b : List ℕ). getD b t 0) e ∙ getD-tabulate w (λ t. over n set (byteOf l s (q + t))) t u
       ∙ strip-read s (d * l + o) (q + t) (strip n l set d s₀) r (omega arith) (omega arith) ∙ ap (λ (x : ℕ). over n set (byteOf l s₀ x)) (sym y)))
+
+  -- one more byte
+  pub strip-byte : (s : List ℕ) (t v : ℕ) → Written s₀ s (d * l) (d * l + t) (strip n l set d s₀) → t < l → d * l + l ≤ length s₀
+      → v ≡ over n set (byteOf l s t) → Written s₀ (set′ s (d * l + t) v) (d * l) (d * l + (t + 1)) (strip n l set d s₀)
+  unfolding strip
+  strip-byte s t v r h fits e =
+      rw (← add-assoc (d * l) t 1)
+      (written-byte s₀ s (d * l) (d * l + t) v (strip n l set d s₀) r (omega arith) (omega arith)
+      (let y : d * l + t - d * l ≡ t = omega arith in
+      e ∙ strip-read s (d * l + t) t (strip n l set d s₀) r (omega arith) h ∙ ap (λ (x : ℕ). over n set (byteOf l s₀ x)) (sym y)))

@@ -1,8 +1,9 @@
 // Strips computed from other strips: those of some disks filled with the XOR of the strips of a set
 // each, and whether the XOR of the strips of each of some sets vanishes.
 //
-// A stripe has the strips of all disks, l bytes each. Strips of 128 bytes or more go block by block, the
-// last block over the end of the one before it; shorter strips are widened to 128 bytes first.
+// A stripe has the strips of all disks, l bytes each. Strips go in blocks of 128 bytes, those shorter than
+// that in blocks of 16, and those shorter than 16 byte by byte; the last block lies over the end of the
+// one before it.
 ghost use mathlib.Core.Path.{_≡_};
 ghost use mathlib.Core.Logic.{_≢_};
 ghost use Prim.Native.Nat.{ℕ, _+_, _*_, _^_, _<_, _≤_};
@@ -24,8 +25,8 @@ pub fn length_ok(l: usize) -> bool
 }
 
 // The strip of disk d becomes the XOR of the strips of the disks below n that are in the set, which d is
-// not. Strips have 128 bytes or more.
-fn fill_strip(s: &mut [u8], l: usize, n: usize, set: u32, d: usize)
+// not: strips of 128 bytes or more,
+fn fill_long(s: &mut [u8], l: usize, n: usize, set: u32, d: usize)
     requires { ⌜ (128 ≤ l) × (n ≤ 32) × (n * l ≤ length (now s)) × (d * l + l ≤ length (now s)) ⌝ }
     requires { ⌜ ((i : ℕ) → i < n → T (has set i) → i ≢ d) ⌝ }
     ensures { λ _. ⌜ now (s .exit) ≡ filled n l (λ _. set) (2 ^ d) (now (s .entry)) ⌝ }
@@ -44,30 +45,51 @@ fn fill_strip(s: &mut [u8], l: usize, n: usize, set: u32, d: usize)
     }
 }
 
-// The strips of the targets, of 128 bytes or more.
-fn fill_long(s: &mut [u8], l: usize, n: usize, disks: usize, targets: u32, sets: [u32; 32])
-    requires { ⌜ (128 ≤ l) × (n ≤ disks) × (disks ≤ 32) × (disks * l ≡ length (now s)) ⌝ }
-    requires { ⌜ ((d i : ℕ) → T (has targets d) → i < n → T (has (getD sets d 0) i) → T (has targets i) → ⊥) ⌝ }
-    ensures { λ _. ⌜ now (s .exit) ≡ filled n l (λ d. getD sets d 0) targets (now (s .entry)) ⌝ }
+// of 16 bytes or more,
+fn fill_short(s: &mut [u8], l: usize, n: usize, set: u32, d: usize)
+    requires { ⌜ (16 ≤ l) × (n ≤ 32) × (n * l ≤ length (now s)) × (d * l + l ≤ length (now s)) ⌝ }
+    requires { ⌜ ((i : ℕ) → i < n → T (has set i) → i ≢ d) ⌝ }
+    ensures { λ _. ⌜ now (s .exit) ≡ filled n l (λ _. set) (2 ^ d) (now (s .entry)) ⌝ }
 {
-    for d in 0..disks {
-        if gf2::has(targets, d as u32) {
-            fill_strip(s, l, n, sets[d], d);
-        }
+    let at = d * l;
+    let mut o = 0;
+    while o + 16 <= l {
+        let block = blocks::sum_16(s, l, n, set, o);
+        blocks::put_16(s, at + o, block);
+        o += 16;
+    }
+    if o < l {
+        let last = l - 16;
+        let block = blocks::sum_16(s, l, n, set, last);
+        blocks::put_16(s, at + last, block);
     }
 }
 
-// The strips of the targets, shorter than 128 bytes.
-fn fill_short(s: &mut [u8], l: usize, n: usize, disks: usize, targets: u32, sets: [u32; 32])
-    requires { ⌜ (1 ≤ l) × (l ≤ 128) × (n ≤ disks) × (disks ≤ 32) × (disks * l ≡ length (now s)) ⌝ }
-    ensures { λ _. ⌜ now (s .exit) ≡ filled n l (λ d. getD sets d 0) targets (now (s .entry)) ⌝ }
+// and of any length.
+fn fill_bytes(s: &mut [u8], l: usize, n: usize, set: u32, d: usize)
+    requires { ⌜ (1 ≤ l) × (n ≤ 32) × (n * l ≤ length (now s)) × (d * l + l ≤ length (now s)) ⌝ }
+    requires { ⌜ ((i : ℕ) → i < n → T (has set i) → i ≢ d) ⌝ }
+    ensures { λ _. ⌜ now (s .exit) ≡ filled n l (λ _. set) (2 ^ d) (now (s .entry)) ⌝ }
 {
-    let wide = blocks::widened(s, l, n);
-    for d in 0..disks {
-        if gf2::has(targets, d as u32) {
-            let block = blocks::sum(&wide, 128, n, sets[d], 0);
-            blocks::put_first(s, d * l, block, l);
-        }
+    let at = d * l;
+    for t in 0..l {
+        let byte = blocks::sum_1(s, l, n, set, t);
+        s[at + t] = byte;
+    }
+}
+
+// The same, by what suits the strips' length.
+fn fill_strip(s: &mut [u8], l: usize, n: usize, set: u32, d: usize)
+    requires { ⌜ (1 ≤ l) × (n ≤ 32) × (n * l ≤ length (now s)) × (d * l + l ≤ length (now s)) ⌝ }
+    requires { ⌜ ((i : ℕ) → i < n → T (has set i) → i ≢ d) ⌝ }
+    ensures { λ _. ⌜ now (s .exit) ≡ filled n l (λ _. set) (2 ^ d) (now (s .entry)) ⌝ }
+{
+    if 128 <= l {
+        fill_long(s, l, n, set, d);
+    } else if 16 <= l {
+        fill_short(s, l, n, set, d);
+    } else {
+        fill_bytes(s, l, n, set, d);
     }
 }
 
@@ -78,16 +100,16 @@ pub fn fill(s: &mut [u8], l: usize, n: usize, disks: usize, targets: u32, sets: 
     requires { ⌜ ((d i : ℕ) → T (has targets d) → i < n → T (has (getD sets d 0) i) → T (has targets i) → ⊥) ⌝ }
     ensures { λ _. ⌜ now (s .exit) ≡ filled n l (λ d. getD sets d 0) targets (now (s .entry)) ⌝ }
 {
-    if l < 128 {
-        fill_short(s, l, n, disks, targets, sets);
-    } else {
-        fill_long(s, l, n, disks, targets, sets);
+    for d in 0..disks {
+        if gf2::has(targets, d as u32) {
+            fill_strip(s, l, n, sets[d], d);
+        }
     }
 }
 
-// Whether the XOR of the strips of the disks below n that are in the set vanishes. Strips have 128 bytes
-// or more.
-fn strip_vanishes(s: &[u8], l: usize, n: usize, set: u32) -> bool
+// Whether the XOR of the strips of the disks below n that are in the set vanishes: strips of 128 bytes or
+// more,
+fn vanishes_long(s: &[u8], l: usize, n: usize, set: u32) -> bool
     requires { ⌜ (128 ≤ l) × (l ≤ 65536) × (n ≤ 32) × (n * l ≤ length (now s)) ⌝ }
     ensures { λ r. ⌜ r ≡ vanishes n l (now (s .entry)) set ⌝ }
 {
@@ -104,9 +126,54 @@ fn strip_vanishes(s: &[u8], l: usize, n: usize, set: u32) -> bool
     true
 }
 
-// The same of every row of a basis.
-fn rows_vanish(s: &[u8], l: usize, n: usize, rows: Basis) -> bool
-    requires { ⌜ (128 ≤ l) × (l ≤ 65536) × (n ≤ 32) × (n * l ≤ length (now s)) × (rows .count ≤ 16) ⌝ }
+// of 16 bytes or more,
+fn vanishes_short(s: &[u8], l: usize, n: usize, set: u32) -> bool
+    requires { ⌜ (16 ≤ l) × (l ≤ 65536) × (n ≤ 32) × (n * l ≤ length (now s)) ⌝ }
+    ensures { λ r. ⌜ r ≡ vanishes n l (now (s .entry)) set ⌝ }
+{
+    let mut o = 0;
+    while o + 16 <= l {
+        if !blocks::is_zero_16(blocks::sum_16(s, l, n, set, o)) {
+            return false;
+        }
+        o += 16;
+    }
+    if o < l {
+        return blocks::is_zero_16(blocks::sum_16(s, l, n, set, l - 16));
+    }
+    true
+}
+
+// and of any length.
+fn vanishes_bytes(s: &[u8], l: usize, n: usize, set: u32) -> bool
+    requires { ⌜ (n ≤ 32) × (n * l ≤ length (now s)) ⌝ }
+    ensures { λ r. ⌜ r ≡ vanishes n l (now (s .entry)) set ⌝ }
+{
+    for t in 0..l {
+        if blocks::sum_1(s, l, n, set, t) != 0 {
+            return false;
+        }
+    }
+    true
+}
+
+// The same, by what suits the strips' length.
+fn strip_vanishes(s: &[u8], l: usize, n: usize, set: u32) -> bool
+    requires { ⌜ (l ≤ 65536) × (n ≤ 32) × (n * l ≤ length (now s)) ⌝ }
+    ensures { λ r. ⌜ r ≡ vanishes n l (now (s .entry)) set ⌝ }
+{
+    if 128 <= l {
+        return vanishes_long(s, l, n, set);
+    }
+    if 16 <= l {
+        return vanishes_short(s, l, n, set);
+    }
+    vanishes_bytes(s, l, n, set)
+}
+
+// Whether it vanishes for every row of a basis.
+pub fn all_vanish(s: &[u8], l: usize, n: usize, rows: Basis) -> bool
+    requires { ⌜ (l ≤ 65536) × (n ≤ 32) × (n * l ≤ length (now s)) × (rows .count ≤ 16) ⌝ }
     ensures { λ r. ⌜ r ≡ allVanish n l (now (s .entry)) (take (rows .count) (rows .rows)) ⌝ }
 {
     let count = rows.count;
@@ -117,16 +184,4 @@ fn rows_vanish(s: &[u8], l: usize, n: usize, rows: Basis) -> bool
         }
     }
     true
-}
-
-// Whether the XOR of the strips of the disks below n that are in a row vanishes, for every row.
-pub fn all_vanish(s: &[u8], l: usize, n: usize, rows: Basis) -> bool
-    requires { ⌜ (l ≤ 65536) × (n ≤ 32) × (n * l ≤ length (now s)) × (rows .count ≤ 16) ⌝ }
-    ensures { λ r. ⌜ r ≡ allVanish n l (now (s .entry)) (take (rows .count) (rows .rows)) ⌝ }
-{
-    if l < 128 {
-        let wide = blocks::widened(s, l, n);
-        return rows_vanish(&wide, 128, n, rows);
-    }
-    rows_vanish(s, l, n, rows)
 }

@@ -1,90 +1,98 @@
--- `strips::fill_long` meets its contract: the strips of the targets below d are filled.
+-- `strips::fill_long` meets its contract: the strip is written up to o, the other strips are as at entry.
 -- Assumes nothing.
 use mathlib.Core.Path.{_≡_, refl, sym, ap, _∙_, subst}
-use mathlib.Core.Logic.{⊎-elim}
 use Prim.Native.Nat.{ℕ, _+_, _-_, _*_, _≤_}
-use native.Mathlib.Nat.{mul-le-mul-right}
 use native.Mathlib.Omega.{arith}
-use lib.Dec.{T}
-use lib.ListN.{getD}
-use Rattle.gf2.specs.Sets.{has}
-use Rattle.gf2.proofs.Tests.{true-T, false-T}
-use Rattle.blocks.proofs.Summed.{strip-within}
-use Rattle.strips.proofs.Filling.{FilledTo, filled-none, filled-skip, filled-strip, filled-all}
+use mathlib.Core.List.{List}
+use lib.Seq.{paste}
+use Rattle.strips.proofs.Written.{Written, strip, written-start, strip-more}
+use Rattle.strips.proofs.Filling.{strip-filled}
 use borrow.Author.Needs.{needs}
 use Rattle.strips.proofs.fill_long.Statement.{statement}
 use Rattle.strips.proofs.fill_long.Tie as tie
 
 abbrev Inv-loop : tie.InvT-loop
-Inv-loop s₀ l n disks targets sets d₀ s d = (d ≤ disks) × FilledTo n l (λ i. getD sets i 0) targets s₀ d s
+Inv-loop s₀ l n set d at o₀ s o = (o ≤ l) × (at ≡ d * l) × Written s₀ s (d * l) (d * l + o) (strip n l set d s₀)
 
 abbrev μ-loop : tie.MeasureT-loop
-μ-loop s₀ l n disks targets sets d₀ s d = disks - d
+μ-loop s₀ l n set d at o₀ s o = l - o
+
+mul-at : tie.Need-mul-at Inv-loop μ-loop
+mul-at c = search needs
 
 loop-holds : tie.Need-loop-holds Inv-loop μ-loop
-loop-holds c = (search needs, filled-none _ _ _ _ _)
+loop-holds c = (search needs, refl, written-start _ _ _)
 
--- in a turn the strip of disk d is within the strips
-inside : (c : tie.In-loop Inv-loop μ-loop) → c .before .loop .d * c .before .before .before .args .l + c .before .before .before .args .l ≤ c .before .before .before .args .disks * c .before .before .before .args .l
-inside c = strip-within (c .before .loop .d) (c .before .before .before .args .disks) (c .before .before .before .args .l) (omega arith)
+add-loop : tie.Need-add-loop Inv-loop μ-loop
+add-loop c = search needs
 
-cast-has : tie.Need-cast-has Inv-loop μ-loop
-cast-has c = search needs
+sum-requires : tie.Need-sum-requires Inv-loop μ-loop
+sum-requires c κs = search needs
 
-has-requires : tie.Need-has-requires Inv-loop μ-loop
-has-requires c κs = search needs
+add-put : tie.Need-add-put Inv-loop μ-loop
+add-put c = search needs
 
-mul-fill-strip : tie.Need-mul-fill-strip Inv-loop μ-loop
-mul-fill-strip c = search needs
+put-requires : tie.Need-put-requires Inv-loop μ-loop
+put-requires c κs = search needs
 
-array-read-fill-strip : tie.Need-array-read-fill-strip Inv-loop μ-loop
-array-read-fill-strip c = search needs
-
-fill-strip-requires : tie.Need-fill-strip-requires Inv-loop μ-loop
-fill-strip-requires c κs =
-    let m = c .before .before in
-    let lp = m .before .before .loop in
-    let st = m .before .before .before .before in
-    let a = st .args in
-    let few = mul-le-mul-right (a .l) (st .pre .0 .1) in (
-      omega (arith, inside (m .before), few, lp .inv .1 .long),
-      λ i h u e. st .pre .1 (lp .d) i (true-T (sym (m .has .ensures) ∙ c .before .if1 .taken)) h u (subst (λ (x : ℕ). T (has (a .targets) x)) (sym e) (true-T (sym (m .has .ensures) ∙ c .before .if1 .taken))),
-    )
-
-add-d : tie.Need-add-d Inv-loop μ-loop
-add-d c = search needs
+add-o : tie.Need-add-o Inv-loop μ-loop
+add-o c = search needs
 
 loop-less : tie.Need-loop-less Inv-loop μ-loop
 loop-less c = search needs
 
 loop-again : tie.Need-loop-again Inv-loop μ-loop
 loop-again c =
-    let m = c .before in
-    let lp = m .before .before .loop in
-    let st = m .before .before .before .before in
-    let a = st .args in
-    let few = mul-le-mul-right (a .l) (st .pre .0 .1) in
-    ⊎-elim
-    (λ w. let t = true-T (sym (m .has .ensures) ∙ w .0 .taken) in (
-      omega arith,
-      subst (FilledTo (a .n) (a .l) (λ i. getD (a .t6) i 0) (a .targets) (a .s .now) (lp .d + 1)) (sym (w .5))
-          (filled-strip (a .n) (a .l) (λ i. getD (a .t6) i 0) (a .targets) (a .s .now) (lp .d) (lp .s) _ (search needs) (lp .inv .1) t
-          (omega (arith, few)) (λ i h u. st .pre .1 (lp .d) i t h u) (w .2 .ensures)),
-    ))
-    (λ w. (
-      omega arith,
-      subst (FilledTo (a .n) (a .l) (λ i. getD (a .t6) i 0) (a .targets) (a .s .now) (lp .d + 1)) (sym (w .1))
-          (filled-skip (a .n) (a .l) (λ i. getD (a .t6) i 0) (a .targets) (a .s .now) (lp .d) (lp .s) (lp .inv .1) (false-T (sym (m .has .ensures) ∙ w .0 .left))),
-    ))
-    (c .if1 .came)
+    let lp = c .before .before .before .before .before .before .before .loop in
+    let st = c .before .before .before .before .before .before .before .before .before in
+    let a = st .args in (
+      search needs,
+      lp .inv .1,
+      subst (λ (s : List ℕ). Written (a .s .now) s (a .d * a .l) (a .d * a .l + (lp .o + 128)) (strip (a .n) (a .l) (a .set) (a .d) (a .s .now)))
+          (sym (c .before .before .put .ensures ∙ ap (λ (at : ℕ). paste (lp .s) (at + lp .o) (c .before .before .before .before .sum .result) 128) (lp .inv .1)))
+          (strip-more (a .n) (a .l) (a .set) (a .d) (a .s .now) (st .pre .1) 128 (lp .s) (c .before .before .before .before .sum .result) (lp .o) (lp .o) (lp .inv .2)
+          (omega arith) (omega arith) (search needs) (search needs) (c .before .before .before .before .sum .ensures)),
+    )
+
+sub-last : tie.Need-sub-last Inv-loop μ-loop
+sub-last c = search needs
+
+sum-requires-2 : tie.Need-sum-requires-2 Inv-loop μ-loop
+sum-requires-2 c κs = search needs
+
+add-put-2 : tie.Need-add-put-2 Inv-loop μ-loop
+add-put-2 c = search needs
+
+put-requires-2 : tie.Need-put-requires-2 Inv-loop μ-loop
+put-requires-2 c κs = search needs
 
 same-length : tie.Need-same-length Inv-loop μ-loop
 same-length c = search needs
 
 returns : tie.Need-returns Inv-loop μ-loop
 returns c =
-    let e : c .before .loop .d ≡ c .before .before .before .args .disks = search needs in
-    filled-all _ _ _ _ _ _ _ _ (c .before .loop .inv .1) e (search needs)
+    let lp = c .before .before .before .before .before .before .before .before .loop in
+    let st = c .before .before .before .before .before .before .before .before .before .before in
+    let a = st .args in
+    let block = c .before .before .before .before .sum2 .result in
+    let e : a .l - 128 + 128 ≡ a .l = search needs in
+    strip-filled (a .n) (a .l) (a .set) (a .d) (a .s .now) (c .before .before .put2 .last .0) (search needs)
+    (subst (λ (s : List ℕ). Written (a .s .now) s (a .d * a .l) (a .d * a .l + a .l) (strip (a .n) (a .l) (a .set) (a .d) (a .s .now)))
+    (sym (c .before .before .put2 .ensures ∙ ap (λ (at : ℕ). paste (lp .s) (at + (a .l - 128)) block 128) (lp .inv .1)))
+    (subst (λ (o : ℕ). Written (a .s .now) (paste (lp .s) (a .d * a .l + (a .l - 128)) block 128) (a .d * a .l) (a .d * a .l + o) (strip (a .n) (a .l) (a .set) (a .d) (a .s .now))) e
+    (strip-more (a .n) (a .l) (a .set) (a .d) (a .s .now) (st .pre .1) 128 (lp .s) block (lp .o) (a .l - 128) (lp .inv .2)
+    (search needs) (search needs) (search needs) (search needs) (c .before .before .before .before .sum2 .ensures))))
+
+same-length-2 : tie.Need-same-length-2 Inv-loop μ-loop
+same-length-2 c = search needs
+
+returns-2 : tie.Need-returns-2 Inv-loop μ-loop
+returns-2 c =
+    let lp = c .before .before .loop in
+    let a = c .before .before .before .before .args in
+    let e : lp .o ≡ a .l = search needs in
+    strip-filled (a .n) (a .l) (a .set) (a .d) (a .s .now) (lp .s) (search needs)
+    (subst (λ (o : ℕ). Written (a .s .now) (lp .s) (a .d * a .l) (a .d * a .l + o) (strip (a .n) (a .l) (a .set) (a .d) (a .s .now))) e (lp .inv .2))
 
 pub fill-long-spec : {M : Type 1} → statement M
 fill-long-spec =
@@ -92,14 +100,20 @@ fill-long-spec =
     (tie.spec
     Inv-loop
     μ-loop
+    mul-at
     loop-holds
-    cast-has
-    has-requires
-    mul-fill-strip
-    array-read-fill-strip
-    fill-strip-requires
-    add-d
+    add-loop
+    sum-requires
+    add-put
+    put-requires
+    add-o
     loop-less
     loop-again
+    sub-last
+    sum-requires-2
+    add-put-2
+    put-requires-2
     same-length
-    returns)
+    returns
+    same-length-2
+    returns-2)

@@ -1,94 +1,98 @@
--- `strips::fill_short` meets its contract: the strips of the targets below d are filled.
+-- `strips::fill_short` meets its contract: the strip is written up to o, the other strips are as at entry.
 -- Assumes nothing.
 use mathlib.Core.Path.{_≡_, refl, sym, ap, _∙_, subst}
-use mathlib.Core.Logic.{⊎-elim}
-use mathlib.Core.List.{List}
 use Prim.Native.Nat.{ℕ, _+_, _-_, _*_, _≤_}
-use native.Mathlib.Nat.{mul-le-mul-right}
 use native.Mathlib.Omega.{arith}
-use lib.ListN.{length, getD}
-use Rattle.gf2.proofs.Tests.{true-T, false-T}
-use Rattle.blocks.proofs.Summed.{strip-within}
-use Rattle.strips.proofs.Filling.{FilledTo, filled-none, filled-skip, filled-paste, filled-all}
-use Rattle.strips.proofs.Vanishing.{wide-block}
+use mathlib.Core.List.{List}
+use lib.Seq.{paste}
+use Rattle.strips.proofs.Written.{Written, strip, written-start, strip-more}
+use Rattle.strips.proofs.Filling.{strip-filled}
 use borrow.Author.Needs.{needs}
 use Rattle.strips.proofs.fill_short.Statement.{statement}
 use Rattle.strips.proofs.fill_short.Tie as tie
 
 abbrev Inv-loop : tie.InvT-loop
-Inv-loop s₀ l n disks targets sets wide d₀ s d = (d ≤ disks) × FilledTo n l (λ i. getD sets i 0) targets s₀ d s
+Inv-loop s₀ l n set d at o₀ s o = (o ≤ l) × (at ≡ d * l) × Written s₀ s (d * l) (d * l + o) (strip n l set d s₀)
 
 abbrev μ-loop : tie.MeasureT-loop
-μ-loop s₀ l n disks targets sets wide d₀ s d = disks - d
+μ-loop s₀ l n set d at o₀ s o = l - o
 
-widened-requires : tie.Need-widened-requires Inv-loop μ-loop
-widened-requires c κs = omega (arith, mul-le-mul-right (c .before .before .args .l) (c .before .before .pre .2))
+mul-at : tie.Need-mul-at Inv-loop μ-loop
+mul-at c = search needs
 
 loop-holds : tie.Need-loop-holds Inv-loop μ-loop
-loop-holds c = (search needs, filled-none _ _ _ _ _)
+loop-holds c = (search needs, refl, written-start _ _ _)
 
--- in a turn the strip of disk d is within the strips
-inside : (c : tie.In-loop Inv-loop μ-loop) → c .before .loop .d * c .before .before .before .before .before .args .l + c .before .before .before .before .before .args .l ≤ c .before .before .before .before .before .args .disks * c .before .before .before .before .before .args .l
-inside c = strip-within (c .before .loop .d) (c .before .before .before .before .before .args .disks) (c .before .before .before .before .before .args .l) (omega arith)
+add-loop : tie.Need-add-loop Inv-loop μ-loop
+add-loop c = search needs
 
-cast-has : tie.Need-cast-has Inv-loop μ-loop
-cast-has c = search needs
+sum-16-requires : tie.Need-sum-16-requires Inv-loop μ-loop
+sum-16-requires c κs = search needs
 
-has-requires : tie.Need-has-requires Inv-loop μ-loop
-has-requires c κs = search needs
+add-put-16 : tie.Need-add-put-16 Inv-loop μ-loop
+add-put-16 c = search needs
 
-slice-aggregate-sum : tie.Need-slice-aggregate-sum Inv-loop μ-loop
-slice-aggregate-sum c = search needs
+put-16-requires : tie.Need-put-16-requires Inv-loop μ-loop
+put-16-requires c κs = search needs
 
-mul-sum : tie.Need-mul-sum Inv-loop μ-loop
-mul-sum c = search needs
-
-array-read-sum : tie.Need-array-read-sum Inv-loop μ-loop
-array-read-sum c = search needs
-
-sum-requires : tie.Need-sum-requires Inv-loop μ-loop
-sum-requires c κs = search needs
-
-mul-put-first : tie.Need-mul-put-first Inv-loop μ-loop
-mul-put-first c = omega (arith, inside (c .before .before .before .before .before))
-
-put-first-requires : tie.Need-put-first-requires Inv-loop μ-loop
-put-first-requires c κs = omega (arith, inside (c .before .before .before .before .before), (c .before .before .before .before .before .before .loop .inv .1 .long))
-
-add-d : tie.Need-add-d Inv-loop μ-loop
-add-d c = search needs
+add-o : tie.Need-add-o Inv-loop μ-loop
+add-o c = search needs
 
 loop-less : tie.Need-loop-less Inv-loop μ-loop
 loop-less c = search needs
 
 loop-again : tie.Need-loop-again Inv-loop μ-loop
 loop-again c =
-    let m = c .before in
-    let lp = m .before .before .loop in
-    let st = m .before .before .before .before .before .before in
-    let a = st .args in
-    ⊎-elim
-    (λ w. (
-      omega arith,
-      subst (FilledTo (a .n) (a .l) (λ i. getD (a .t6) i 0) (a .targets) (a .s .now) (lp .d + 1)) (sym (w .7 ∙ w .4 .ensures))
-          (filled-paste (a .n) (a .l) (λ i. getD (a .t6) i 0) (a .targets) (a .s .now) (lp .d) (lp .s) (w .2 .result) (search needs) (lp .inv .1)
-          (true-T (sym (m .has .ensures) ∙ w .0 .taken)) (omega (arith, inside (m .before))) (omega (arith, ap length (w .2 .ensures)))
-          (wide-block (a .n) (a .l) (a .s .now) (m .before .before .before .widened .result) (search needs) (search needs) (m .before .before .before .widened .ensures) _ (w .2 .result) (w .2 .ensures))),
-    ))
-    (λ w. (
-      omega arith,
-      subst (FilledTo (a .n) (a .l) (λ i. getD (a .t6) i 0) (a .targets) (a .s .now) (lp .d + 1)) (sym (w .1))
-          (filled-skip (a .n) (a .l) (λ i. getD (a .t6) i 0) (a .targets) (a .s .now) (lp .d) (lp .s) (lp .inv .1) (false-T (sym (m .has .ensures) ∙ w .0 .left))),
-    ))
-    (c .if1 .came)
+    let lp = c .before .before .before .before .before .before .before .loop in
+    let st = c .before .before .before .before .before .before .before .before .before in
+    let a = st .args in (
+      search needs,
+      lp .inv .1,
+      subst (λ (s : List ℕ). Written (a .s .now) s (a .d * a .l) (a .d * a .l + (lp .o + 16)) (strip (a .n) (a .l) (a .set) (a .d) (a .s .now)))
+          (sym (c .before .before .put-16 .ensures ∙ ap (λ (at : ℕ). paste (lp .s) (at + lp .o) (c .before .before .before .before .sum-16 .result) 16) (lp .inv .1)))
+          (strip-more (a .n) (a .l) (a .set) (a .d) (a .s .now) (st .pre .1) 16 (lp .s) (c .before .before .before .before .sum-16 .result) (lp .o) (lp .o) (lp .inv .2)
+          (omega arith) (omega arith) (search needs) (search needs) (c .before .before .before .before .sum-16 .ensures)),
+    )
+
+sub-last : tie.Need-sub-last Inv-loop μ-loop
+sub-last c = search needs
+
+sum-16-requires-2 : tie.Need-sum-16-requires-2 Inv-loop μ-loop
+sum-16-requires-2 c κs = search needs
+
+add-put-16-2 : tie.Need-add-put-16-2 Inv-loop μ-loop
+add-put-16-2 c = search needs
+
+put-16-requires-2 : tie.Need-put-16-requires-2 Inv-loop μ-loop
+put-16-requires-2 c κs = search needs
 
 same-length : tie.Need-same-length Inv-loop μ-loop
 same-length c = search needs
 
 returns : tie.Need-returns Inv-loop μ-loop
 returns c =
-    let e : c .before .loop .d ≡ c .before .before .before .before .before .args .disks = search needs in
-    filled-all _ _ _ _ _ _ _ _ (c .before .loop .inv .1) e (search needs)
+    let lp = c .before .before .before .before .before .before .before .before .loop in
+    let st = c .before .before .before .before .before .before .before .before .before .before in
+    let a = st .args in
+    let block = c .before .before .before .before .sum-162 .result in
+    let e : a .l - 16 + 16 ≡ a .l = search needs in
+    strip-filled (a .n) (a .l) (a .set) (a .d) (a .s .now) (c .before .before .put-162 .last .0) (search needs)
+    (subst (λ (s : List ℕ). Written (a .s .now) s (a .d * a .l) (a .d * a .l + a .l) (strip (a .n) (a .l) (a .set) (a .d) (a .s .now)))
+    (sym (c .before .before .put-162 .ensures ∙ ap (λ (at : ℕ). paste (lp .s) (at + (a .l - 16)) block 16) (lp .inv .1)))
+    (subst (λ (o : ℕ). Written (a .s .now) (paste (lp .s) (a .d * a .l + (a .l - 16)) block 16) (a .d * a .l) (a .d * a .l + o) (strip (a .n) (a .l) (a .set) (a .d) (a .s .now))) e
+    (strip-more (a .n) (a .l) (a .set) (a .d) (a .s .now) (st .pre .1) 16 (lp .s) block (lp .o) (a .l - 16) (lp .inv .2)
+    (search needs) (search needs) (search needs) (search needs) (c .before .before .before .before .sum-162 .ensures))))
+
+same-length-2 : tie.Need-same-length-2 Inv-loop μ-loop
+same-length-2 c = search needs
+
+returns-2 : tie.Need-returns-2 Inv-loop μ-loop
+returns-2 c =
+    let lp = c .before .before .loop in
+    let a = c .before .before .before .before .args in
+    let e : lp .o ≡ a .l = search needs in
+    strip-filled (a .n) (a .l) (a .set) (a .d) (a .s .now) (lp .s) (search needs)
+    (subst (λ (o : ℕ). Written (a .s .now) (lp .s) (a .d * a .l) (a .d * a .l + o) (strip (a .n) (a .l) (a .set) (a .d) (a .s .now))) e (lp .inv .2))
 
 pub fill-short-spec : {M : Type 1} → statement M
 fill-short-spec =
@@ -96,18 +100,20 @@ fill-short-spec =
     (tie.spec
     Inv-loop
     μ-loop
-    widened-requires
+    mul-at
     loop-holds
-    cast-has
-    has-requires
-    slice-aggregate-sum
-    mul-sum
-    array-read-sum
-    sum-requires
-    mul-put-first
-    put-first-requires
-    add-d
+    add-loop
+    sum-16-requires
+    add-put-16
+    put-16-requires
+    add-o
     loop-less
     loop-again
+    sub-last
+    sum-16-requires-2
+    add-put-16-2
+    put-16-requires-2
     same-length
-    returns)
+    returns
+    same-length-2
+    returns-2)

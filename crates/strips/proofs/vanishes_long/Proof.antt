@@ -1,4 +1,4 @@
--- `strips::strip_vanishes` meets its contract: the bytes below o are 0.
+-- `strips::vanishes_long` meets its contract: the bytes below o are 0.
 -- Assumes nothing.
 use mathlib.Core.Path.{_≡_, refl, sym, ap, _∙_}
 use borrow.Author.Tests.{not-true, not-false}
@@ -6,8 +6,8 @@ use Prim.Native.Nat.{ℕ, _+_, _-_, _*_, _≤_}
 use native.Mathlib.Omega.{arith}
 use Rattle.strips.proofs.Vanishing.{Vanished, vanished-none, vanished-more, vanished-not, vanished-last, vanished-all}
 use borrow.Author.Needs.{needs}
-use Rattle.strips.proofs.strip_vanishes.Statement.{statement}
-use Rattle.strips.proofs.strip_vanishes.Tie as tie
+use Rattle.strips.proofs.vanishes_long.Statement.{statement}
+use Rattle.strips.proofs.vanishes_long.Tie as tie
 
 abbrev Inv-loop : tie.InvT-loop
 Inv-loop s l n set o₀ o = (o ≤ l) × Vanished n l set s o
@@ -28,7 +28,7 @@ is-zero-requires : tie.Need-is-zero-requires Inv-loop μ-loop
 is-zero-requires c κs = search needs
 
 returns : tie.Need-returns Inv-loop μ-loop
-returns c = vanished-not _ _ _ _ _ _ (c .before .before .sum .ensures) (search needs) (sym (c .before .is-zero .ensures) ∙ not-true _ (c .if1 .taken))
+returns c = vanished-not _ _ _ _ _ _ _ (c .before .before .sum .ensures) (search needs) (sym (c .before .is-zero .ensures) ∙ not-true _ (c .if1 .taken))
 
 add-o : tie.Need-add-o Inv-loop μ-loop
 add-o c = search needs
@@ -37,7 +37,7 @@ loop-less : tie.Need-loop-less Inv-loop μ-loop
 loop-less c = search needs
 
 loop-again : tie.Need-loop-again Inv-loop μ-loop
-loop-again c = (search needs, vanished-more _ _ _ _ _ _ _ (c .before .before .before .before .loop .inv .1) (omega arith) (c .before .before .sum .ensures) (sym (c .before .is-zero .ensures) ∙ not-false _ (c .if1 .left)))
+loop-again c = (search needs, vanished-more _ _ _ _ _ _ _ _ (c .before .before .before .before .loop .inv .1) (omega arith) (c .before .before .sum .ensures) (sym (c .before .is-zero .ensures) ∙ not-false _ (c .if1 .left)))
 
 sub-sum : tie.Need-sub-sum Inv-loop μ-loop
 sub-sum c = search needs
@@ -51,13 +51,13 @@ is-zero-requires-2 c κs = search needs
 returns-2 : tie.Need-returns-2 Inv-loop μ-loop
 returns-2 c =
     let lp = c .before .before .before .before .loop in
-    vanished-last _ _ _ _ (lp .o) _ _ _ (lp .inv .1) (search needs) (search needs) (c .before .sum2 .ensures) (c .is-zero2 .ensures)
+    vanished-last _ _ _ _ _ (lp .o) _ _ _ (lp .inv .1) (search needs) (search needs) (c .before .sum2 .ensures) (c .is-zero2 .ensures)
 
 returns-3 : tie.Need-returns-3 Inv-loop μ-loop
 returns-3 c = vanished-all _ _ _ _ _ (c .before .before .loop .inv .1) (search needs)
 
-pub strip-vanishes-spec : {M : Type 1} → statement M
-strip-vanishes-spec =
+pub vanishes-long-spec : {M : Type 1} → statement M
+vanishes-long-spec =
     tie.close
     (tie.spec
     Inv-loop
