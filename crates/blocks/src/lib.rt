@@ -45,9 +45,10 @@ fn joined(block: [u8; 128], s: &[u8], at: usize, set: u32, i: usize) -> [u8; 128
     }
 }
 
-// Of the XOR of the strips of the disks below n that are in the set: the 128 bytes from o on.
+// Of the XOR of the strips of the disks below n that are in the set: the 128 bytes from o on. They may go
+// over the strips' end, as long as the slice has them.
 pub fn sum(s: &[u8], l: usize, n: usize, set: u32, o: usize) -> [u8; 128]
-    requires { ⌜ (n ≤ 32) × (o + 128 ≤ l) × (n * l ≤ length (now s)) ⌝ }
+    requires { ⌜ (n ≤ 32) × (n * l + o + 128 ≤ length (now s) + l) ⌝ }
     ensures { λ r. ⌜ r ≡ tabulate 128 (λ t. over n set (byteOf l (now (s .entry)) (o + t))) ⌝ }
 {
     let mut block = [0u8; 128];
@@ -64,6 +65,16 @@ pub fn put(s: &mut [u8], at: usize, block: [u8; 128])
     ensures { λ _. ⌜ now (s .exit) ≡ paste (now (s .entry)) at block 128 ⌝ }
 {
     for t in 0..128 {
+        s[at + t] = block[t];
+    }
+}
+
+// Puts the first bytes of the block into the slice.
+pub fn put_first(s: &mut [u8], at: usize, block: [u8; 128], count: usize)
+    requires { ⌜ (count ≤ 128) × (at + count ≤ length (now s)) ⌝ }
+    ensures { λ _. ⌜ now (s .exit) ≡ paste (now (s .entry)) at block count ⌝ }
+{
+    for t in 0..count {
         s[at + t] = block[t];
     }
 }

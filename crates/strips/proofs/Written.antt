@@ -113,3 +113,13 @@ module _ (n l set d : ℕ) (s₀ : List ℕ) (other : (i : ℕ) → i < n → T 
       (written-byte s₀ s (d * l) (d * l + t) v (strip n l set d s₀) r (omega arith) (omega arith)
       (let y : d * l + t - d * l ≡ t = omega arith in
       e ∙ strip-read s (d * l + t) t (strip n l set d s₀) r (omega arith) h ∙ ap (λ (x : ℕ). over n set (byteOf l s₀ x)) (sym y)))
+
+-- the whole of it, out of a block that goes over its end
+pub strip-whole : (n l set d : ℕ) (s block : List ℕ) → l ≤ 128 → d * l + l ≤ length s → block ≡ tabulate 128 (λ t. over n set (byteOf l s (0 + t)))
+    → Written s (paste s (d * l) block l) (d * l) (d * l + l) (strip n l set d s)
+unfolding strip
+strip-whole n l set d s block h fits e =
+    written-more s s block (d * l) (d * l) (d * l) l (strip n l set d s) (written-none s (d * l) (strip n l set d s)) (omega arith) (omega arith) (omega arith) fits
+    (let x : length block ≡ 128 = ap length e ∙ length-tabulate 128 (λ t. over n set (byteOf l s (0 + t))) in omega arith)
+    (λ t u. let y : d * l + t - d * l ≡ 0 + t = omega arith in
+    ap (λ (b : List ℕ). getD b t 0) e ∙ getD-tabulate 128 (λ t. over n set (byteOf l s (0 + t))) t (omega arith) ∙ ap (λ (x : ℕ). over n set (byteOf l s x)) (sym y))

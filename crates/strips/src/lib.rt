@@ -5,9 +5,10 @@
 // that in blocks of 16, and those shorter than 16 byte by byte; the last block lies over the end of the
 // one before it.
 ghost use mathlib.Core.Path.{_≡_};
+ghost use mathlib.Core.Bool.{_&&_};
 ghost use mathlib.Core.Logic.{_≢_};
 ghost use Prim.Native.Nat.{ℕ, _+_, _*_, _^_, _<_, _≤_};
-ghost use lib.Dec.{T};
+ghost use lib.Dec.{T, leb, ltb};
 ghost use lib.ListN.{length, getD, take};
 ghost use Rattle.gf2.specs.Sets.{has};
 ghost use Rattle.flat.specs.Strips.{lengthOk};
@@ -65,6 +66,15 @@ fn fill_short(s: &mut [u8], l: usize, n: usize, set: u32, d: usize)
     }
 }
 
+// shorter than 128 bytes, in one block that goes over their end, where the slice has its bytes,
+fn fill_over(s: &mut [u8], l: usize, n: usize, set: u32, d: usize)
+    requires { ⌜ (1 ≤ l) × (l ≤ 128) × (n ≤ 32) × (n * l + 128 ≤ length (now s) + l) × (d * l + l ≤ length (now s)) ⌝ }
+    ensures { λ _. ⌜ now (s .exit) ≡ filled n l (λ _. set) (2 ^ d) (now (s .entry)) ⌝ }
+{
+    let block = blocks::sum(s, l, n, set, 0);
+    blocks::put_first(s, d * l, block, l);
+}
+
 // and of any length.
 fn fill_bytes(s: &mut [u8], l: usize, n: usize, set: u32, d: usize)
     requires { ⌜ (1 ≤ l) × (n ≤ 32) × (n * l ≤ length (now s)) × (d * l + l ≤ length (now s)) ⌝ }
@@ -78,6 +88,17 @@ fn fill_bytes(s: &mut [u8], l: usize, n: usize, set: u32, d: usize)
     }
 }
 
+// Whether a block over the strips' end is there, and does less work than blocks of 16 bytes.
+fn over_ok(size: usize, l: usize, n: usize) -> bool
+    requires { ⌜ (l ≤ 128) × (n ≤ 32) × (size + l < 2 ^ 64) ⌝ }
+    ensures { λ r. ⌜ r ≡ (ltb 32 l && leb (n * l + 128) (size + l)) ⌝ }
+{
+    if l <= 32 {
+        return false;
+    }
+    n * l + 128 <= size + l
+}
+
 // The same, by what suits the strips' length.
 fn fill_strip(s: &mut [u8], l: usize, n: usize, set: u32, d: usize)
     requires { ⌜ (1 ≤ l) × (n ≤ 32) × (n * l ≤ length (now s)) × (d * l + l ≤ length (now s)) ⌝ }
@@ -86,6 +107,8 @@ fn fill_strip(s: &mut [u8], l: usize, n: usize, set: u32, d: usize)
 {
     if 128 <= l {
         fill_long(s, l, n, set, d);
+    } else if over_ok(s.len(), l, n) {
+        fill_over(s, l, n, set, d);
     } else if 16 <= l {
         fill_short(s, l, n, set, d);
     } else {
