@@ -17,7 +17,7 @@ use Rattle.flat.specs.Strips.{lengthOk}
 use Rattle.flat.specs.Erasures.{fatal}
 use Rattle.flat.specs.Rebuilding.{agreeing, restored}
 use Rattle.flat.specs.Repairs.{consistent}
-use Rattle.flat.specs.Faults.{Report, accepted, refused, unlessRefused, cardReport, withCard, survivorsReport, rebuildReport, rebuildStripe}
+use Rattle.flat.specs.Faults.{Report, accepted, refused, unlessRefused, cardReport, survivorsReport, rebuildReport, rebuildStripe}
 use Rattle.flat.proofs.Agreement.{agreeing-cases}
 use Rattle.flat.proofs.Theorems.{consistent-agrees}
 use Rattle.card.specs.declared.CardFault.{CardFault}

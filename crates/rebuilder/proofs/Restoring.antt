@@ -1,23 +1,22 @@
 -- Filling the lost strips by the table of equations: none of them reads a lost strip, and the stripe becomes the restored one.
 -- Assumes nothing.
-use mathlib.Core.Path.{_≡_, refl, sym, ap, _∙_, subst}
+use mathlib.Core.Path.{_≡_, sym, subst}
 use mathlib.Core.Bool.{_&&_}
 use mathlib.Core.Logic.{_⊎_, inl, inr}
 use mathlib.Core.List.{List}
-use Prim.Native.Nat.{ℕ, _+_, _*_, _^_, _≤_, _<_}
+use Prim.Native.Nat.{ℕ, _+_, _^_, _≤_, _<_}
 use lib.Dec.{T, ltb}
-use lib.ListN.{length, getD}
+use lib.ListN.{getD}
 use Rattle.gf2.specs.If.{if_then_else_}
 use Rattle.gf2.specs.Sets.{has}
 use Rattle.gf2.proofs.Tests.{below-or}
 use Rattle.gf2.proofs.Bits.{bit-above, not-has}
 use Rattle.gf2.proofs.Subsets.{⊆-out}
 use Rattle.flat.specs.Lists.{tabulate}
-use Rattle.flat.specs.Cards.{Code, code, disks}
+use Rattle.flat.specs.Cards.{code, disks}
 use Rattle.flat.specs.Erasures.{survivors, fatal}
 use Rattle.flat.specs.Rebuilding.{agreeing, restored}
 use Rattle.flat.specs.Repairs.{filled, equationAmong}
-use Rattle.flat.specs.Faults.{Report}
 use Rattle.flat.proofs.Duality.{survivor-out}
 use Rattle.flat.proofs.Theorems.{equation-left, restored-filled}
 use Rattle.repairs.proofs.Callers.{equation-at}

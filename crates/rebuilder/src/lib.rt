@@ -69,7 +69,8 @@ fn decide(columns: &[u8], k: usize, m: usize, l: usize, lost: u32, stripe: &[u8]
     if !strips::all_vanish(stripe, l, n, words) {
         return Rebuilt::Inconsistent;
     }
-    Rebuilt::Disks(gf2::size(lost))
+    let count = gf2::size(lost);
+    Rebuilt::Disks(count)
 }
 
 // Fills the lost strips, each by its equation among the survivors.

@@ -3,16 +3,15 @@
 use mathlib.Core.Path.{_≡_, sym, ap, _∙_}
 use mathlib.Core.Bool.{true}
 use mathlib.Core.List.{[], _∷_}
-use Prim.Native.Nat.{ℕ, _+_, _*_, _^_, _≤_}
+use Prim.Native.Nat.{ℕ, _+_, _^_, _≤_}
 use native.Mathlib.Nat.{mul-le-mul-right}
 use native.Mathlib.Omega.{arith}
 use borrow.Author.Needs.{needs}
 use borrow.Author.Tests.{not-true, not-false}
 use denote.Ref.{now}
 use lib.Dec.{T, ltb}
-use lib.ListN.{length}
 use Rattle.flat.specs.Lists.{Bytes}
-use Rattle.flat.specs.Cards.{Code, code, disks, columnsIn}
+use Rattle.flat.specs.Cards.{code, disks, columnsIn}
 use Rattle.flat.specs.Strips.{lengthOk}
 use Rattle.flat.specs.Erasures.{fatal}
 use Rattle.flat.specs.Repairs.{consistent}

@@ -1,6 +1,6 @@
 -- `rebuilder::rebuild_columns` meets its contract: what is refused is left as it was, and what is accepted is restored.
 -- Assumes nothing.
-use mathlib.Core.Path.{_≡_, sym, _∙_}
+use mathlib.Core.Path.{sym, _∙_}
 use borrow.Author.Needs.{needs}
 use denote.Ref.{now}
 use Rattle.flat.specs.Cards.{columnsIn}

@@ -1,6 +1,6 @@
 -- `rebuilder::restore` meets its contract: the table's equations read survivors only.
 -- Assumes nothing.
-use mathlib.Core.Path.{_≡_, _∙_}
+use mathlib.Core.Path.{_∙_}
 use native.Mathlib.Omega.{arith}
 use borrow.Author.Needs.{needs}
 use Rattle.flat.specs.Cards.{code}
