@@ -6,6 +6,7 @@ use mathlib.Core.Logic.{_⊎_, _≢_, ⊎-elim}
 use mathlib.Core.List.{List, [], _∷_}
 use Prim.Native.Nat.{ℕ, suc, _+_, _*_, _^_, _≤_, _<_}
 use native.Mathlib.Omega.{arith}
+use borrow.Author.Tests.{not-false}
 use lib.Dec.{T, eqb, ltb, leb}
 use lib.ListN.{length, drop}
 use Rattle.gf2.specs.If.{if_then_else_}
@@ -110,10 +111,7 @@ passed : (b : Bool) (n : ℕ) (next : Report) → (if b then refused (suc n) [] 
 passed true n next e = absurd (omega arith)
 passed false n next e = (refl, e)
 
-not-false : (b : Bool) → not b ≡ false → b ≡ true
-not-false true e = refl
-not-false false e = sym e
-
+-- an accepted call: what `restore` requires, and that some content agrees
 pub record Passed (k m : ℕ) (columns : List ℕ) (L S : ℕ) (stripe : List ℕ) : Type 0 where
   pub long : 1 ≤ L
   pub inside : S < 2 ^ (k + m)

@@ -43,10 +43,10 @@ below-requires c κs = search needs
 returns-2 : tie.Need-returns-2
 returns-2 c = tested-set _ _ _ _ _ _ (good-length (c .before .before)) (sym (c .before .below .ensures) ∙ not-true _ (c .if2 .taken))
 
--- the set is one of the code's disks past the second
 abbrev start : tie.Else2 → tie.Start
 start c = c .before .before .before .before .before .before
 
+-- the set is one of the code's disks past the second
 good-set : (c : tie.Else2) → ltb (start c .args .lost) (2 ^ (start c .args .k + start c .args .m)) ≡ true
 good-set c = sym (c .before .below .ensures) ∙ not-false _ (c .if2 .left)
 
@@ -88,6 +88,7 @@ told : (c : tie.After-all-vanish) →
 unfolding disks
 told c = c .all-vanish .ensures ∙ vanish-consistent (code _ _ _) _ _ _ _ (c .before .consistency .ensures .1)
 
+-- what the slice's type says
 stripe-bytes : (c : tie.Else2) → Bytes (now (start c .args .stripe))
 stripe-bytes c i = omega (arith, c .before .before .before .before .shared-slice-known2 .given i)
 
