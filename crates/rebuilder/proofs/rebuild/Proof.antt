@@ -1,0 +1,81 @@
+-- `rebuilder::rebuild` meets its contract.
+-- Assumes nothing.
+use mathlib.Core.Path.{_≡_, sym, ap, _∙_}
+use mathlib.Core.List.{List}
+use Prim.Native.Nat.{ℕ}
+use native.Mathlib.Omega.{arith}
+use borrow.Author.Needs.{needs}
+use denote.Ref.{now}
+use Rattle.flat.specs.Faults.{rebuildReport}
+use Rattle.card.specs.Reports.{checkReport}
+use Rattle.card.proofs.Laws.{rest}
+use Rattle.card.proofs.Callers.{GoodCard, good}
+use Rattle.rebuilder.specs.Reports.{rebuiltReport}
+use Rattle.rebuilder.proofs.Answers.{good-report, good-stripe, bad-report, bad-stripe}
+use Rattle.rebuilder.proofs.rebuild.Statement.{statement}
+use Rattle.rebuilder.proofs.rebuild.Tie as tie
+
+check-requires : tie.Need-check-requires
+check-requires c κs = search needs
+
+enum-known-fault : tie.Need-enum-known-fault
+enum-known-fault c = search needs
+
+enum-known-k : tie.Need-enum-known-k
+enum-known-k c = search needs
+
+-- where the check found the card good
+abbrev cardAt : tie.After-known-told2 → List ℕ
+cardAt c = now (c .before .before .before .before .before .before .args .card)
+
+known : (c : tie.After-known-told2) → GoodCard (cardAt c) (c .before .k .given .0 .0) (c .before .k .given .0 .1 .0)
+known c = good _ _ _ (ap checkReport (sym (c .before .k .given .1)) ∙ c .before .before .before .check .ensures)
+
+sub-rebuild-columns : tie.Need-sub-rebuild-columns
+sub-rebuild-columns c = omega (arith, known c .size)
+
+part-rebuild-columns-start : tie.Need-part-rebuild-columns-start
+part-rebuild-columns-start c = omega (arith, known c .size)
+
+part-rebuild-columns-end : tie.Need-part-rebuild-columns-end
+part-rebuild-columns-end c = search needs
+
+rebuild-columns-requires : tie.Need-rebuild-columns-requires
+rebuild-columns-requires c κs =
+    let g = known (c .before .before) in
+    ((g .k-in .0, g .k-in .1, g .m-in .1, rw rest (omega (arith, g .columns))), λ j l. rw rest (g .small j l))
+
+returns : tie.Need-returns
+returns c =
+    let e = ap checkReport (sym (c .before .fault .given .1)) ∙ c .before .before .before .check .ensures in
+    let f = c .before .fault .given .0 .0 in
+    (bad-report _ f _ _ _ e, bad-stripe _ f _ _ _ e)
+
+same-length : tie.Need-same-length
+same-length c = search needs
+
+returns-2 : tie.Need-returns-2
+returns-2 c =
+    let d = c .before .before in
+    let s = d .before .before .before in
+    let a = s .before .before .before .before .before .before .args in
+    let g = known s in
+    let v = d .rebuild-columns in
+    let e : rebuiltReport (v .result) ≡ rebuildReport (cardAt s) (a .l) (a .lost) (now (a .stripe)) =
+    v .ensures .0 ∙ rw rest (sym (good-report _ _ _ _ _ _ g)) in
+    (e, v .ensures .1 ∙ rw rest (good-stripe _ _ _ _ _ _ _ g e))
+
+pub rebuild-spec : {M : Type 1} → statement M
+rebuild-spec =
+    tie.close
+    (tie.spec
+    check-requires
+    enum-known-fault
+    enum-known-k
+    sub-rebuild-columns
+    part-rebuild-columns-start
+    part-rebuild-columns-end
+    rebuild-columns-requires
+    returns
+    same-length
+    returns-2)
