@@ -65,7 +65,7 @@ pub(crate) fn fill(s: &mut [u8], l: usize, n: usize, disks: usize, targets: u32,
 {
     let mut local = [0u8; 4096];
     let mut o = 0;
-    while o + 128 <= l {
+    while 128 <= l - o {
         gather(&mut local, s, l, n, o);
         fill_block(s, &local, l, n, disks, targets, sets, o);
         o += 128;
