@@ -1,9 +1,9 @@
 -- `strips::dense::copy` meets its contract: a copy is made byte by byte.
 -- Assumes nothing.
-use mathlib.Core.Path.{_≡_, refl, sym, _∙_}
-use Prim.Native.Nat.{ℕ, _+_, _-_, _≤_}
+use mathlib.Core.Path.{_≡_, sym}
+use Prim.Native.Nat.{_-_, _≤_}
 use native.Mathlib.Omega.{arith}
-use lib.ListN.{length, getD, drop, length-drop}
+use lib.ListN.{drop, length-drop}
 use lib.Seq.{getD-drop}
 use Rattle.blocks.proofs.Loops.{Copied, copied-none, copied-more, copied-all}
 use borrow.Author.Needs.{needs}

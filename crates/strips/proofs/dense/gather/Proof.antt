@@ -1,7 +1,7 @@
 -- `strips::dense::gather` meets its contract: the blocks of the disks so far are gathered.
 -- Assumes nothing.
-use mathlib.Core.Path.{_≡_, refl, sym, subst}
-use Prim.Native.Nat.{ℕ, _+_, _-_, _*_, _≤_, _<_}
+use mathlib.Core.Path.{_≡_, sym, subst}
+use Prim.Native.Nat.{_+_, _-_, _*_, _≤_}
 use native.Mathlib.Omega.{arith}
 use Rattle.blocks.proofs.Summed.{strip-within}
 use Rattle.strips.proofs.Patched.{Gathered, gathered-none, gathered-more}

@@ -1,8 +1,7 @@
 -- `strips::dense::is_dense` ends, and nothing in it overflows.
 -- Assumes nothing.
-use mathlib.Core.Path.{_≡_, sym}
 use mathlib.Core.Logic.{⊎-elim}
-use Prim.Native.Nat.{ℕ, _+_, _-_, _*_, _≤_}
+use Prim.Native.Nat.{_-_, _*_, _≤_}
 use native.Mathlib.Omega.{arith}
 use borrow.Author.Needs.{needs}
 use Rattle.strips.proofs.dense.is_dense.Statement.{statement}
