@@ -25,7 +25,7 @@ use Rattle.flat.proofs.Positions.{places, at-place}
 use Rattle.strips.proofs.Written.{Written, strip}
 
 -- a strip is the places of one disk
-disk-of : (l d p : ℕ) → 0 < l → d * l ≤ p → p < d * l + l → (p / l ≡ d) × (p % l ≡ p - d * l)
+pub disk-of : (l d p : ℕ) → 0 < l → d * l ≤ p → p < d * l + l → (p / l ≡ d) × (p % l ≡ p - d * l)
 disk-of l d p z h k =
     let t : p - d * l < l = omega arith in
     let e : p ≡ d * l + (p - d * l) = omega arith in (
