@@ -118,9 +118,8 @@ fn fill_strip(s: &mut [u8], l: usize, n: usize, set: u32, d: usize)
     }
 }
 
-// The strip of each target d becomes the XOR of the strips of the disks below n that are in set d; none
-// of those is a target.
-pub fn fill(s: &mut [u8], l: usize, n: usize, disks: usize, targets: u32, sets: [u32; 32])
+// The strips of the targets, one after the other.
+fn fill_each(s: &mut [u8], l: usize, n: usize, disks: usize, targets: u32, sets: [u32; 32])
     requires { ⌜ (1 ≤ l) × (n ≤ disks) × (disks ≤ 32) × (disks * l ≡ length (now s)) ⌝ }
     requires { ⌜ ((d i : ℕ) → T (has targets d) → i < n → T (has (getD sets d 0) i) → T (has targets i) → ⊥) ⌝ }
     ensures { λ _. ⌜ now (s .exit) ≡ filled n l (λ d. getD sets d 0) targets (now (s .entry)) ⌝ }
@@ -129,6 +128,22 @@ pub fn fill(s: &mut [u8], l: usize, n: usize, disks: usize, targets: u32, sets: 
         if gf2::has(targets, d as u32) {
             fill_strip(s, l, n, sets[d], d);
         }
+    }
+}
+
+// The strip of each target d becomes the XOR of the strips of the disks below n that are in set d; none
+// of those is a target. Long strips that are read often go block by block.
+pub fn fill(s: &mut [u8], l: usize, n: usize, disks: usize, targets: u32, sets: [u32; 32])
+    requires { ⌜ (1 ≤ l) × (n ≤ disks) × (disks ≤ 32) × (disks * l ≡ length (now s)) ⌝ }
+    requires { ⌜ ((d i : ℕ) → T (has targets d) → i < n → T (has (getD sets d 0) i) → T (has targets i) → ⊥) ⌝ }
+    ensures { λ _. ⌜ now (s .exit) ≡ filled n l (λ d. getD sets d 0) targets (now (s .entry)) ⌝ }
+{
+    if l < 8192 {
+        fill_each(s, l, n, disks, targets, sets);
+    } else if dense::is_dense(n, disks, targets, sets) {
+        dense::fill(s, l, n, disks, targets, sets);
+    } else {
+        fill_each(s, l, n, disks, targets, sets);
     }
 }
 

@@ -1,4 +1,4 @@
--- `strips::fill` meets its contract: the strips of the targets below d are filled.
+-- `strips::fill_each` meets its contract: the strips of the targets below d are filled.
 -- Assumes nothing.
 use mathlib.Core.Path.{_≡_, refl, sym, ap, _∙_, subst}
 use mathlib.Core.Logic.{⊎-elim}
@@ -12,8 +12,8 @@ use Rattle.gf2.proofs.Tests.{true-T, false-T}
 use Rattle.blocks.proofs.Summed.{strip-within}
 use Rattle.strips.proofs.Filling.{FilledTo, filled-none, filled-skip, filled-strip, filled-all}
 use borrow.Author.Needs.{needs}
-use Rattle.strips.proofs.fill.Statement.{statement}
-use Rattle.strips.proofs.fill.Tie as tie
+use Rattle.strips.proofs.fill_each.Statement.{statement}
+use Rattle.strips.proofs.fill_each.Tie as tie
 
 abbrev Inv-loop : tie.InvT-loop
 Inv-loop s₀ l n disks targets sets d₀ s d = (d ≤ disks) × FilledTo n l (λ i. getD sets i 0) targets s₀ d s
@@ -86,8 +86,8 @@ returns c =
     let e : c .before .loop .d ≡ c .before .before .before .args .disks = search needs in
     filled-all _ _ _ _ _ _ _ _ (c .before .loop .inv .1) e (search needs)
 
-pub fill-spec : {M : Type 1} → statement M
-fill-spec =
+pub fill-each-spec : {M : Type 1} → statement M
+fill-each-spec =
     tie.close
     (tie.spec
     Inv-loop
