@@ -13,13 +13,15 @@ use Rattle.gf2.specs.If.{if_then_else_}
 use Rattle.gf2.specs.Sets.{has, size, _∖_}
 use Rattle.gf2.specs.Span.{select}
 use Rattle.gf2.specs.Within.{within}
+use Rattle.gf2.proofs.Sizes.{size-lt}
 use Rattle.flat.specs.Lists.{range, filter, each, orderedBy}
 use Rattle.flat.specs.Cards.{Code, disks, setOk, countOk, firstBad, codeOf, cardLength}
 use Rattle.flat.specs.Strips.{lengthOk}
 use Rattle.flat.specs.Erasures.{fatal, erasures}
 use Rattle.flat.specs.Equations.{equations}
+use Rattle.flat.specs.Rebuilding.{agreeing}
 use Rattle.flat.specs.Spans.{rows, checks, selectors, erasuresByWord, equationsByParities}
-use Rattle.flat.specs.Faults.{Report, accepted, refused, yesNo, unlessRefused, codeReport, cardReport, withCard, encodeReport, verdictReport, listReport, erasuresReport, equationsReport}
+use Rattle.flat.specs.Faults.{Report, accepted, refused, yesNo, unlessRefused, codeReport, cardReport, withCard, encodeReport, verdictReport, listReport, erasuresReport, equationsReport, survivorsReport, rebuildReport}
 use Rattle.flat.proofs.Rows.{rows-length, checks-length}
 use Rattle.flat.proofs.Cards.{count-in}
 use Rattle.flat.proofs.ErasuresListed.{erasures-enumerated}
@@ -194,3 +196,22 @@ pub equations-value : (card : List ℕ) (d n : ℕ) → value (equationsReport c
 unfolding equationsReport
 equations-value card d n =
     with-value card (λ C. if not (ltb d (disks C)) then refused 9 [] else listReport (equations C d) n) (λ h. equations-answer (codeOf card) d n (h .1))
+
+-- ---- the rebuilder names how many of at most 32 disks were lost
+
+survivors-answer : (S : ℕ) (contents : List (List ℕ)) → size S < 65536 → value (survivorsReport S contents) < 65536
+unfolding survivorsReport
+survivors-answer S [] h = omega arith
+survivors-answer S (c ∷ cs) h = h
+
+pub rebuild-value : (card : List ℕ) (L S : ℕ) (stripe : List ℕ) → value (rebuildReport card L S stripe) < 65536
+unfolding rebuildReport setOk disks
+rebuild-value card L S stripe =
+    with-value card
+    (λ C. if not (lengthOk L) then refused 6 [] else if not (setOk C S) then refused 8 [] else if not (eqb (length stripe) (disks C * L)) then refused 7 [] else if fatal C S then refused 11 [] else survivorsReport S (agreeing C L S stripe))
+    (λ h. pick (not (lengthOk L)) _ _ (λ _. omega arith)
+    (λ _. pick (not (setOk (codeOf card) S)) _ _ (λ _. omega arith)
+    (λ e. pick (not (eqb (length stripe) (disks (codeOf card) * L))) _ _ (λ _. omega arith)
+    (λ _. pick (fatal (codeOf card) S) _ _ (λ _. omega arith)
+    (λ _. survivors-answer S (agreeing (codeOf card) L S stripe)
+    (omega (arith, h, size-lt (disks (codeOf card)) S (ltb-true S (2 ^ disks (codeOf card)) (not-false (ltb S (2 ^ disks (codeOf card))) e)))))))))

@@ -1,5 +1,5 @@
-// The static library for C and Rust: the encoder, the verdict call, the lister and the equation call,
-// exported.
+// The static library for C and Rust: the encoder, the verdict call, the lister, the equation call and the
+// rebuilder, exported.
 //
 // An answer is one number: the report's number, 0 where the call is accepted, and 256 times the value
 // that the report names, if it names one. A slice is passed as a pointer and a count. Every byte
@@ -7,17 +7,19 @@
 ghost use mathlib.Core.Path.{_≡_};
 ghost use Prim.Native.Nat.{_+_, _*_, _<_};
 ghost use lib.ListN.{length};
-ghost use Rattle.flat.specs.Faults.{unlessRefused, encodeReport, encodeStripe, verdictReport, erasuresReport, erasuresVector, erasuresSlice, equationsReport, equationsSlice};
+ghost use Rattle.flat.specs.Faults.{unlessRefused, encodeReport, encodeStripe, verdictReport, erasuresReport, erasuresVector, erasuresSlice, equationsReport, equationsSlice, rebuildReport, rebuildStripe};
 ghost use Rattle.card.specs.Reports.{faultReport};
 ghost use Rattle.erasures.specs.Reports.{verdictReport as setReport};
 ghost use Rattle.equations.specs.Reports.{toldReport};
 ghost use Rattle.encoder.specs.Reports.{encodedReport};
+ghost use Rattle.rebuilder.specs.Reports.{rebuiltReport};
 ghost use Rattle.bridgecrumb.specs.Coded.{value, coded};
 use card::CardFault;
 use encoder::Encoded;
 use equations::Told;
 use erasures::Listed;
 use erasures::SetVerdict;
+use rebuilder::Rebuilt;
 
 // A report's number and its value as one number.
 fn joined(number: u64, value: usize) -> u64
@@ -80,6 +82,22 @@ fn told_code(told: Told) -> u64
     }
 }
 
+// The rebuilder's answer.
+fn rebuilt_code(rebuilt: Rebuilt) -> u64
+    requires { ⌜ value (rebuiltReport rebuilt) < 65536 ⌝ }
+    ensures { λ r. ⌜ r ≡ coded (rebuiltReport rebuilt) ⌝ }
+{
+    match rebuilt {
+        Rebuilt::Disks(count) => joined(0, count as usize),
+        Rebuilt::Card(fault) => fault_code(fault),
+        Rebuilt::StripLength => 6,
+        Rebuilt::OutsideSet => 8,
+        Rebuilt::StripeLength => 7,
+        Rebuilt::Fatal => 11,
+        Rebuilt::Inconsistent => 12,
+    }
+}
+
 // The encoder: the parity strips of the stripe, each byte the XOR of the same byte of its data disks. A
 // refused call writes nothing.
 #[no_mangle]
@@ -127,4 +145,14 @@ pub extern "C" fn bridgecrumb_equations(card: &[u8], disk: usize, out: &mut [u32
     ensures { λ _. ⌜ now (out .exit) ≡ equationsSlice (now (card .entry)) disk (now (out .entry)) ⌝ }
 {
     told_code(equations::list(card, disk, out))
+}
+
+// The rebuilder: the lost strips become those of the only content that agrees with the survivors. A
+// refused call writes nothing.
+#[no_mangle]
+pub extern "C" fn bridgecrumb_rebuild(card: &[u8], l: usize, lost: u32, stripe: &mut [u8]) -> u64
+    ensures { λ r. ⌜ r ≡ coded (rebuildReport (now (card .entry)) l lost (now (stripe .entry))) ⌝ }
+    ensures { λ _. ⌜ now (stripe .exit) ≡ rebuildStripe (now (card .entry)) l lost (now (stripe .entry)) ⌝ }
+{
+    rebuilt_code(rebuilder::rebuild(card, l, lost, stripe))
 }

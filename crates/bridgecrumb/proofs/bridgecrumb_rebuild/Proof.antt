@@ -1,0 +1,29 @@
+-- `bridgecrumb::bridgecrumb_rebuild` meets its contract. Assumes nothing.
+use mathlib.Core.Path.{sym, ap, _∙_, subst}
+use Prim.Native.Nat.{_<_}
+use borrow.Author.Needs.{needs}
+use denote.Ref.{now}
+use Rattle.flat.specs.Faults.{Report}
+use Rattle.bridgecrumb.specs.Coded.{value, coded}
+use Rattle.bridgecrumb.proofs.Bounds.{rebuild-value}
+use Rattle.bridgecrumb.proofs.bridgecrumb_rebuild.Statement.{statement}
+use Rattle.bridgecrumb.proofs.bridgecrumb_rebuild.Tie as tie
+
+rebuild-requires : tie.Need-rebuild-requires
+rebuild-requires c κs = search needs
+
+rebuilt-code-requires : tie.Need-rebuilt-code-requires
+rebuilt-code-requires c κs =
+    let a = c .before .before .before .before .before .before .args in
+    subst (λ (r : Report). value r < 65536) (sym (c .before .before .rebuild .ensures .0)) (rebuild-value (now (a .card)) (a .l) (a .lost) (now (a .stripe)))
+
+same-length : tie.Need-same-length
+same-length c = search needs
+
+returns : tie.Need-returns
+returns c =
+    let l = c .before .before .before .rebuild in
+    (c .rebuilt-code .ensures ∙ ap coded (l .ensures .0), l .ensures .1)
+
+pub bridgecrumb-rebuild-spec : {M : Type 1} → statement M
+bridgecrumb-rebuild-spec = tie.close (tie.spec rebuild-requires rebuilt-code-requires same-length returns)
