@@ -1,3 +1,4 @@
 pub mod Loops
 pub mod Pasted
 pub mod Summed
+pub mod Placed

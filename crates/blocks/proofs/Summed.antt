@@ -24,7 +24,7 @@ strip-within i n l h = rw (← suc-mul i l) (mul-le-mul-right l h)
 pub record Summed (w : ℕ) (s : List ℕ) (l set o i : ℕ) (block : List ℕ) : Type 0 where
   pub so-far : block ≡ tabulate w (λ t. over i set (byteOf l s (o + t)))
 
-zeros : (w : ℕ) → replicate w 0 ≡ tabulate w (λ t. 0)
+pub zeros : (w : ℕ) → replicate w 0 ≡ tabulate w (λ t. 0)
 unfolding tabulate
 zeros zero = refl
 zeros (suc w) = ap (λ (xs : List ℕ). 0 ∷ xs) (zeros w)

@@ -14,14 +14,18 @@ ghost use Rattle.flat.specs.Strips.{byteOf};
 
 mod bytes;
 mod narrow;
+mod places;
 
 pub use bytes::sum_1;
 pub use narrow::is_zero_16;
 pub use narrow::put_16;
 pub use narrow::sum_16;
+pub use places::Members;
+pub use places::members_of;
+pub use places::sum_at;
 
 // The block, XORed with the 128 bytes of the slice from a place on.
-fn added(block: [u8; 128], s: &[u8], at: usize) -> [u8; 128]
+pub(crate) fn added(block: [u8; 128], s: &[u8], at: usize) -> [u8; 128]
     requires { ⌜ at + 128 ≤ length (now s) ⌝ }
     ensures { λ r. ⌜ r ≡ tabulate 128 (λ t. getD block t 0 ⊕ getD (now (s .entry)) (at + t) 0) ⌝ }
 {

@@ -4,7 +4,7 @@ use mathlib.Core.Path.{_≡_, refl, sym, ap, ap₂, _∙_, subst}
 use mathlib.Core.Bool.{Bool, true, false, _&&_}
 use mathlib.Core.Logic.{_⊎_, inl, inr}
 use mathlib.Core.List.{List, [], _∷_}
-use Prim.Native.Nat.{ℕ, _+_, _-_, _≤_, _<_}
+use Prim.Native.Nat.{ℕ, _+_, _-_, _*_, _≤_, _<_}
 use native.Mathlib.Numerals.{add-one}
 use native.Mathlib.Omega.{arith}
 use lib.Dec.{T, eqb}
@@ -12,10 +12,11 @@ use lib.ListN.{length, getD, take, drop}
 use lib.Seq.{drop-cons, drop-length}
 use Rattle.gf2.specs.Sets.{over}
 use Rattle.gf2.proofs.Tests.{T-true, T-false, true-T, eqb-in, eqb-out, below-suc, below-or}
+use Rattle.blocks.specs.Totals.{total}
 use Rattle.flat.specs.Lists.{every, tabulate}
 use Rattle.flat.specs.Strips.{byteOf}
 use Rattle.flat.specs.Repairs.{vanishes, allVanish}
-use Rattle.flat.proofs.Lists.{getD-tabulate}
+use Rattle.flat.proofs.Lists.{getD-tabulate, tabulate-cong}
 use Rattle.flat.proofs.Quantifiers.{every-in, every-out}
 
 -- ---- block by block
@@ -31,6 +32,13 @@ module _ (n l set : ℕ) (s : List ℕ) where
   -- the block of width w at q
   abbrev pub Block : ℕ → ℕ → List ℕ → Type 0
   Block w q block = block ≡ tabulate w (λ t. over n set (byteOf l s (q + t)))
+
+  -- one that is summed over a list of the strips' places
+  pub block-at : (at : List ℕ) (count q : ℕ) (block : List ℕ) → ((f : ℕ → ℕ) → total count (λ j. f (getD at j 0)) ≡ over n set (λ i. f (i * l)))
+      → block ≡ tabulate 128 (λ t. total count (λ j. getD s (getD at j 0 + (q + t)) 0)) → Block 128 q block
+  unfolding byteOf
+  block-at at count q block h e =
+      e ∙ tabulate-cong 128 (λ t. total count (λ j. getD s (getD at j 0 + (q + t)) 0)) (λ t. over n set (byteOf l s (q + t))) (λ t m. h (λ p. getD s (p + (q + t)) 0))
 
   block-byte : (w q : ℕ) (block : List ℕ) → Block w q block → (t : ℕ) → t < w → getD block t 0 ≡ over n set (byteOf l s (q + t))
   block-byte w q block e t h = ap (λ (b : List ℕ). getD b t 0) e ∙ getD-tabulate w (λ t. over n set (byteOf l s (q + t))) t h

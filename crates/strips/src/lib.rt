@@ -153,15 +153,18 @@ fn vanishes_long(s: &[u8], l: usize, n: usize, set: u32) -> bool
     requires { ⌜ (128 ≤ l) × (l ≤ 65536) × (n ≤ 32) × (n * l ≤ length (now s)) ⌝ }
     ensures { λ r. ⌜ r ≡ vanishes n l (now (s .entry)) set ⌝ }
 {
+    let members = blocks::members_of(set, n, l);
+    let at = members.at;
+    let count = members.count;
     let mut o = 0;
     while o + 128 <= l {
-        if !blocks::is_zero(blocks::sum(s, l, n, set, o)) {
+        if !blocks::is_zero(blocks::sum_at(s, &at, count, o)) {
             return false;
         }
         o += 128;
     }
     if o < l {
-        return blocks::is_zero(blocks::sum(s, l, n, set, l - 128));
+        return blocks::is_zero(blocks::sum_at(s, &at, count, l - 128));
     }
     true
 }

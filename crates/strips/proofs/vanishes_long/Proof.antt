@@ -1,19 +1,22 @@
 -- `strips::vanishes_long` meets its contract: the bytes below o are 0.
 -- Assumes nothing.
-use mathlib.Core.Path.{_≡_, refl, sym, ap, _∙_}
+use mathlib.Core.Path.{_≡_, sym, _∙_}
 use borrow.Author.Tests.{not-true, not-false}
 use Prim.Native.Nat.{ℕ, _+_, _-_, _*_, _≤_}
 use native.Mathlib.Omega.{arith}
-use Rattle.strips.proofs.Vanishing.{Vanished, vanished-none, vanished-more, vanished-not, vanished-last, vanished-all}
+use Rattle.strips.proofs.Vanishing.{Vanished, vanished-none, vanished-more, vanished-not, vanished-last, vanished-all, block-at}
 use borrow.Author.Needs.{needs}
 use Rattle.strips.proofs.vanishes_long.Statement.{statement}
 use Rattle.strips.proofs.vanishes_long.Tie as tie
 
 abbrev Inv-loop : tie.InvT-loop
-Inv-loop s l n set o₀ o = (o ≤ l) × Vanished n l set s o
+Inv-loop s l n set at count o₀ o = (o ≤ l) × Vanished n l set s o
 
 abbrev μ-loop : tie.MeasureT-loop
-μ-loop s l n set o₀ o = l - o
+μ-loop s l n set at count o₀ o = l - o
+
+members-of-requires : tie.Need-members-of-requires Inv-loop μ-loop
+members-of-requires c κs = search needs
 
 loop-holds : tie.Need-loop-holds Inv-loop μ-loop
 loop-holds c = (search needs, vanished-none _ _ _ _)
@@ -21,14 +24,21 @@ loop-holds c = (search needs, vanished-none _ _ _ _)
 add-loop : tie.Need-add-loop Inv-loop μ-loop
 add-loop c = search needs
 
-sum-requires : tie.Need-sum-requires Inv-loop μ-loop
-sum-requires c κs = search needs
+sum-at-requires : tie.Need-sum-at-requires Inv-loop μ-loop
+sum-at-requires c κs =
+    let g = c .before .before .before .before in
+    let r = g .members-of in
+    ((search needs, omega (arith, r .ensures .0, g .before .before .pre)), λ j h. omega (arith, r .ensures .1 .0 j h, g .before .before .pre))
 
 is-zero-requires : tie.Need-is-zero-requires Inv-loop μ-loop
 is-zero-requires c κs = search needs
 
 returns : tie.Need-returns Inv-loop μ-loop
-returns c = vanished-not _ _ _ _ _ _ _ (c .before .before .sum .ensures) (search needs) (sym (c .before .is-zero .ensures) ∙ not-true _ (c .if1 .taken))
+returns c =
+    let lp = c .before .before .before .before .before .loop in
+    let r = c .before .before .before .before .before .before .before .members-of in
+    let a = c .before .before .before .before .before .before .before .before .before .args in
+    vanished-not (a .n) (a .l) (a .set) (a .s .now) 128 (lp .o) (c .before .before .sum-at .result) (block-at (a .n) (a .l) (a .set) (a .s .now) (r .result .at) (r .result .count) (lp .o) (c .before .before .sum-at .result) (r .ensures .1 .1) (c .before .before .sum-at .ensures)) (search needs) (sym (c .before .is-zero .ensures) ∙ not-true _ (c .if1 .taken))
 
 add-o : tie.Need-add-o Inv-loop μ-loop
 add-o c = search needs
@@ -37,21 +47,30 @@ loop-less : tie.Need-loop-less Inv-loop μ-loop
 loop-less c = search needs
 
 loop-again : tie.Need-loop-again Inv-loop μ-loop
-loop-again c = (search needs, vanished-more _ _ _ _ _ _ _ _ (c .before .before .before .before .loop .inv .1) (omega arith) (c .before .before .sum .ensures) (sym (c .before .is-zero .ensures) ∙ not-false _ (c .if1 .left)))
+loop-again c =
+    let lp = c .before .before .before .before .before .loop in
+    let r = c .before .before .before .before .before .before .before .members-of in
+    let a = c .before .before .before .before .before .before .before .before .before .args in
+    (search needs, vanished-more (a .n) (a .l) (a .set) (a .s .now) 128 (lp .o) (lp .o) (c .before .before .sum-at .result) (lp .inv .1) (omega arith) (block-at (a .n) (a .l) (a .set) (a .s .now) (r .result .at) (r .result .count) (lp .o) (c .before .before .sum-at .result) (r .ensures .1 .1) (c .before .before .sum-at .ensures)) (sym (c .before .is-zero .ensures) ∙ not-false _ (c .if1 .left)))
 
-sub-sum : tie.Need-sub-sum Inv-loop μ-loop
-sub-sum c = search needs
+sub-sum-at : tie.Need-sub-sum-at Inv-loop μ-loop
+sub-sum-at c = search needs
 
-sum-requires-2 : tie.Need-sum-requires-2 Inv-loop μ-loop
-sum-requires-2 c κs = search needs
+sum-at-requires-2 : tie.Need-sum-at-requires-2 Inv-loop μ-loop
+sum-at-requires-2 c κs =
+    let g = c .before .before .before .before .before in
+    let r = g .members-of in
+    ((search needs, omega (arith, r .ensures .0, g .before .before .pre)), λ j h. omega (arith, r .ensures .1 .0 j h, g .before .before .pre))
 
 is-zero-requires-2 : tie.Need-is-zero-requires-2 Inv-loop μ-loop
 is-zero-requires-2 c κs = search needs
 
 returns-2 : tie.Need-returns-2 Inv-loop μ-loop
 returns-2 c =
-    let lp = c .before .before .before .before .loop in
-    vanished-last _ _ _ _ _ (lp .o) _ _ _ (lp .inv .1) (search needs) (search needs) (c .before .sum2 .ensures) (c .is-zero2 .ensures)
+    let lp = c .before .before .before .before .before .loop in
+    let r = c .before .before .before .before .before .before .before .members-of in
+    let a = c .before .before .before .before .before .before .before .before .before .args in
+    vanished-last (a .n) (a .l) (a .set) (a .s .now) 128 (lp .o) (a .l - 128) (c .before .sum-at2 .result) (c .is-zero2 .result) (lp .inv .1) (search needs) (search needs) (block-at (a .n) (a .l) (a .set) (a .s .now) (r .result .at) (r .result .count) (a .l - 128) (c .before .sum-at2 .result) (r .ensures .1 .1) (c .before .sum-at2 .ensures)) (c .is-zero2 .ensures)
 
 returns-3 : tie.Need-returns-3 Inv-loop μ-loop
 returns-3 c = vanished-all _ _ _ _ _ (c .before .before .loop .inv .1) (search needs)
@@ -62,16 +81,17 @@ vanishes-long-spec =
     (tie.spec
     Inv-loop
     μ-loop
+    members-of-requires
     loop-holds
     add-loop
-    sum-requires
+    sum-at-requires
     is-zero-requires
     returns
     add-o
     loop-less
     loop-again
-    sub-sum
-    sum-requires-2
+    sub-sum-at
+    sum-at-requires-2
     is-zero-requires-2
     returns-2
     returns-3)

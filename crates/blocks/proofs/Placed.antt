@@ -1,0 +1,91 @@
+-- What the loops over a list of places keep: the places of the disks so far, and the XOR of the strips at the places so far.
+-- Assumes nothing.
+use mathlib.Core.Path.{_≡_, refl, sym, ap, ap₂, _∙_}
+use mathlib.Core.Bool.{Bool, true, false}
+use mathlib.Core.Logic.{_⊎_, inl, inr}
+use mathlib.Core.List.{List}
+use Prim.Native.Nat.{ℕ, zero, suc, _+_, _*_, _≤_, _<_}
+use native.Mathlib.Nat.{add-assoc}
+use native.Mathlib.Numerals.{add-one}
+use native.Mathlib.Omega.{arith}
+use lib.ListN.{length, getD, set, replicate, length-set}
+use lib.Seq.{getD-set-same, getD-set-other}
+use Rattle.gf2.specs.If.{if_then_else_}
+use Rattle.gf2.specs.Sets.{has, _⊕_, over}
+use Rattle.gf2.proofs.Tests.{below-suc}
+use Rattle.gf2.proofs.Xor.{⊕-zero}
+use Rattle.flat.specs.Lists.{tabulate}
+use Rattle.flat.proofs.Lists.{getD-tabulate, tabulate-cong}
+use Rattle.blocks.specs.Totals.{total}
+use Rattle.blocks.proofs.Summed.{zeros, strip-within}
+
+total-cong : (n : ℕ) (f g : ℕ → ℕ) → ((j : ℕ) → j < n → f j ≡ g j) → total n f ≡ total n g
+unfolding total
+total-cong zero f g h = refl
+total-cong (suc n) f g h = ap₂ _⊕_ (total-cong n f g (λ j l. h j (omega arith))) (h n (omega arith))
+
+-- ---- the places of the disks below i
+
+pub record Placed (wanted n l i : ℕ) (at : List ℕ) (count : ℕ) : Type 0 where
+  pub few : count ≤ i
+  pub places : length at ≡ 32
+  pub inside : (j : ℕ) → j < count → getD at j 0 + l ≤ n * l
+  pub same : (f : ℕ → ℕ) → total count (λ j. f (getD at j 0)) ≡ over i wanted (λ d. f (d * l))
+
+pub placed-none : (wanted n l : ℕ) (at : List ℕ) → length at ≡ 32 → Placed wanted n l 0 at 0
+unfolding total over
+placed-none wanted n l at e = record { few = omega arith; places = e; inside = λ j h. absurd (omega arith); same = λ f. refl }
+
+pub placed-skip : (wanted n l i : ℕ) (at : List ℕ) (count : ℕ) → Placed wanted n l i at count → has wanted i ≡ false → Placed wanted n l (i + 1) at count
+unfolding over
+placed-skip wanted n l i at count r e =
+    record {
+      few = omega (arith, r .few);
+      places = r .places;
+      inside = r .inside;
+      same = λ f. r .same f ∙ rw (add-one i, e) (sym (⊕-zero (over i wanted (λ d. f (d * l)))));
+    }
+
+pub placed-more : (wanted n l i : ℕ) (at : List ℕ) (count : ℕ) → Placed wanted n l i at count → i < n → n ≤ 32 → has wanted i ≡ true
+    → Placed wanted n l (i + 1) (set at count (i * l)) (count + 1)
+unfolding over total
+placed-more wanted n l i at count r h k e =
+    record {
+      few = omega (arith, r .few);
+      places = length-set at count (i * l) ∙ r .places;
+      inside = λ j m. inside j (below-suc j count (omega arith));
+      same = λ f. rw (add-one i, add-one count, e) (ap₂ _⊕_ (total-cong count (λ j. f (getD (set at count (i * l)) j 0)) (λ j. f (getD at j 0)) (λ j m. ap f (getD-set-other at count j (i * l) 0 (λ q. omega arith))) ∙ r .same f) (ap f new));
+    }
+  where
+    new : getD (set at count (i * l)) count 0 ≡ i * l
+    new = getD-set-same at count (i * l) 0 (omega (arith, r .few, r .places))
+
+    inside : (j : ℕ) → (j < count) ⊎ (j ≡ count) → getD (set at count (i * l)) j 0 + l ≤ n * l
+    inside j (inl m) = rw (getD-set-other at count j (i * l) 0 (λ q. omega arith)) (r .inside j m)
+    inside j (inr q) = rw (q, new) (strip-within i n l h)
+
+-- ---- the XOR of the strips at the first j places
+
+pub record Totalled (s at : List ℕ) (o j : ℕ) (block : List ℕ) : Type 0 where
+  pub so-far : block ≡ tabulate 128 (λ t. total j (λ q. getD s (getD at q 0 + (o + t)) 0))
+
+pub totalled-none : (s at : List ℕ) (o : ℕ) → Totalled s at o 0 (replicate 128 0)
+unfolding total
+totalled-none s at o = record { so-far = zeros 128 }
+
+pub totalled-more : (s at : List ℕ) (o j : ℕ) (block next : List ℕ) → Totalled s at o j block
+    → next ≡ tabulate 128 (λ t. getD block t 0 ⊕ getD s (getD at j 0 + o + t) 0) → Totalled s at o (j + 1) next
+unfolding total
+totalled-more s at o j block next r e =
+    record {
+      so-far =
+          e ∙ rw (add-one j)
+          (tabulate-cong 128 (λ t. getD block t 0 ⊕ getD s (getD at j 0 + o + t) 0) (λ t. total j (λ q. getD s (getD at q 0 + (o + t)) 0) ⊕ getD s (getD at j 0 + (o + t)) 0)
+          (λ t h. ap₂ (λ (x y : ℕ). x ⊕ getD s y 0)
+          (ap (λ (b : List ℕ). getD b t 0) (r .so-far) ∙ getD-tabulate 128 (λ u. total j (λ q. getD s (getD at q 0 + (o + u)) 0)) t h)
+          (add-assoc (getD at j 0) o t)));
+    }
+
+pub totalled-all : (s at : List ℕ) (o j n : ℕ) (block : List ℕ) → Totalled s at o j block → j ≡ n
+    → block ≡ tabulate 128 (λ t. total n (λ q. getD s (getD at q 0 + (o + t)) 0))
+totalled-all s at o j n block r e = r .so-far ∙ ap (λ (m : ℕ). tabulate 128 (λ t. total m (λ q. getD s (getD at q 0 + (o + t)) 0))) e
