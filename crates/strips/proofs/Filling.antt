@@ -1,7 +1,7 @@
 -- A stripe in which the strips of the targets below a disk are filled; the law of one more, and the end.
 -- Assumes nothing.
-use mathlib.Core.Path.{_≡_, refl, sym, ap, ap₂, _∙_, subst}
-use mathlib.Core.Bool.{Bool, true, false, _&&_}
+use mathlib.Core.Path.{_≡_, refl, sym, ap, _∙_, subst}
+use mathlib.Core.Bool.{Bool, _&&_}
 use mathlib.Core.Logic.{_⊎_, inl, inr, _≢_}
 use mathlib.Core.List.{List}
 use Prim.Native.Nat.{ℕ, _+_, _-_, _*_, _/_, _%_, _^_, _≤_, _<_}
@@ -10,8 +10,7 @@ use native.Mathlib.Omega.{arith}
 use lib.Arith.{digits-lt, digits-div, digits-mod}
 use lib.Dec.{T, eqb, ltb}
 use lib.ListN.{length, getD}
-use lib.Seq.{ext-getD, paste, length-paste}
-use Rattle.blocks.proofs.Pasted.{pasted-before, pasted-new, pasted-after}
+use lib.Seq.{ext-getD}
 use Rattle.gf2.specs.If.{if_then_else_}
 use Rattle.gf2.specs.Sets.{has, over}
 use Rattle.gf2.proofs.Tests.{dec, T-ext, T-true, T-false, and-in, and-out, ltb-in, ltb-out, eqb-in, eqb-out, below-suc, below-or}
@@ -20,8 +19,8 @@ use Rattle.gf2.proofs.Sums.{over-cong}
 use Rattle.flat.specs.Lists.{tabulate}
 use Rattle.flat.specs.Strips.{byteOf}
 use Rattle.flat.specs.Repairs.{filled}
-use Rattle.flat.proofs.Lists.{length-tabulate, getD-tabulate, tabulate-cong}
-use Rattle.flat.proofs.Positions.{places, at-place}
+use Rattle.flat.proofs.Lists.{length-tabulate, getD-tabulate}
+use Rattle.flat.proofs.Positions.{places}
 use Rattle.strips.proofs.Written.{Written, strip}
 
 -- a strip is the places of one disk
@@ -132,25 +131,6 @@ module _ (n l : ℕ) (E : ℕ → ℕ) (S : ℕ) (s₀ : List ℕ) where
           less : (p / l < d) ⊎ (p / l ≡ d) → p / l < d
           less (inl m) = m
           less (inr x) = absurd (f (eqb-in x))
-
-  -- by a block that is put into its place
-  pub filled-paste : (d : ℕ) (s block : List ℕ) → 0 < l → FilledTo d s → T (has S d) → d * l + l ≤ length s₀ → l ≤ length block
-      → ((t : ℕ) → t < l → getD block t 0 ≡ over n (E d) (byteOf l s₀ t)) → FilledTo (d + 1) (paste s (d * l) block l)
-  filled-paste d s block z r t fits long e =
-      filled-more d s (paste s (d * l) block l) r t (length-paste s (d * l) block l room long) new (λ p h f. old p f (below-or p (d * l)) (below-or p (d * l + l)))
-    where
-      room : d * l + l ≤ length s
-      room = omega (arith, r .long)
-
-      new : (p : ℕ) → p < length s₀ → p / l ≡ d → getD (paste s (d * l) block l) p 0 ≡ over n (E d) (byteOf l s₀ (p % l))
-      new p h q =
-          let x : d * l + p % l ≡ p = ap (λ (y : ℕ). y * l + p % l) (sym q) ∙ div-add-mod' p l in
-          ap (λ (y : ℕ). getD (paste s (d * l) block l) y 0) (sym x) ∙ pasted-new s (d * l) block l room long (p % l) (mod-lt p z) ∙ e (p % l) (mod-lt p z)
-
-      old : (p : ℕ) → p / l ≢ d → (p < d * l) ⊎ (d * l ≤ p) → (p < d * l + l) ⊎ (d * l + l ≤ p) → getD (paste s (d * l) block l) p 0 ≡ getD s p 0
-      old p f (inl a) c = pasted-before s (d * l) block l room long p a
-      old p f (inr a) (inl c) = absurd (f (disk-of l d p z a c .0))
-      old p f (inr a) (inr c) = pasted-after s (d * l) block l room long p c
 
   -- from strips that are no targets
   pub filled-strip : (d : ℕ) (s s′ : List ℕ) → 0 < l → FilledTo d s → T (has S d) → n * l ≤ length s₀
