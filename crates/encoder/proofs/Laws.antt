@@ -1,7 +1,7 @@
 -- The columns stored at the parity disks' places, and the parity strips filled by them.
 -- Assumes nothing.
-use mathlib.Core.Path.{_≡_, refl, sym, ap, _∙_, subst}
-use mathlib.Core.Bool.{Bool, not}
+use mathlib.Core.Path.{_≡_, sym, ap, _∙_}
+use mathlib.Core.Bool.{not}
 use mathlib.Core.Logic.{_⊎_, inl, inr}
 use mathlib.Core.List.{List}
 use Prim.Native.Nat.{ℕ, _+_, _-_, _*_, _≤_, _<_}
@@ -10,9 +10,9 @@ use lib.Dec.{T, ltb}
 use lib.ListN.{length, getD, set, length-set}
 use lib.Seq.{getD-set-same, getD-set-other}
 use Rattle.gf2.specs.Sets.{has, first}
-use Rattle.gf2.proofs.Tests.{ltb-in, ltb-out, not-out, below-suc, below-or}
+use Rattle.gf2.proofs.Tests.{ltb-in, not-out, below-suc, below-or}
 use Rattle.gf2.proofs.Unions.{first-has}
-use Rattle.flat.specs.Lists.{setOf, tabulate, field}
+use Rattle.flat.specs.Lists.{setOf, field}
 use Rattle.flat.specs.Cards.{code, columnsIn, column, disks}
 use Rattle.flat.specs.Strips.{encoded}
 use Rattle.flat.specs.Repairs.{filled, parities}

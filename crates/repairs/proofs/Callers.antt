@@ -1,25 +1,25 @@
 -- What a caller makes of the answers: whether the lost set is fatal, whether the survivors are consistent, and the stripe filled.
 -- Assumes nothing.
-use mathlib.Core.Path.{_≡_, refl, sym, ap, _∙_, subst}
-use mathlib.Core.Bool.{Bool, true, false, _&&_}
+use mathlib.Core.Path.{_≡_, sym, ap, _∙_, subst}
+use mathlib.Core.Bool.{_&&_}
 use mathlib.Core.Logic.{_⊎_, inl, inr, _≢_, _↔_}
 use mathlib.Core.List.{List}
-use Prim.Native.Nat.{ℕ, _+_, _/_, _%_, _^_, _≤_, _<_}
+use Prim.Native.Nat.{ℕ, _+_, _^_, _≤_, _<_}
 use native.Mathlib.Nat.{lt-of-lt-of-le}
 use lib.Dec.{T, ltb}
-use lib.ListN.{length, getD}
+use lib.ListN.{getD}
 use Rattle.gf2.specs.If.{if_then_else_}
-use Rattle.gf2.specs.Sets.{has, over}
+use Rattle.gf2.specs.Sets.{has}
 use Rattle.gf2.specs.Within.{within}
 use Rattle.gf2.proofs.Tests.{and-in, if-true, ltb-in, below-or}
 use Rattle.gf2.proofs.Bits.{bit-above, not-has}
 use Rattle.flat.specs.Lists.{setOf, tabulate}
 use Rattle.flat.specs.Cards.{Code, code, disks}
-use Rattle.flat.specs.Strips.{byteOf}
 use Rattle.flat.specs.Erasures.{survivors, fatal}
 use Rattle.flat.specs.Spans.{checks, undetermined}
 use Rattle.flat.specs.Repairs.{filled, allVanish, consistent, equationAmong}
-use Rattle.flat.proofs.Lists.{getD-tabulate, tabulate-cong}
+use Rattle.flat.proofs.Lists.{getD-tabulate}
+use Rattle.flat.proofs.Positions.{filled-cong}
 use Rattle.flat.proofs.Undetermined.{fatal-undetermined}
 
 -- `undetermined` answers 0 exactly where the set is not fatal
@@ -48,20 +48,9 @@ module _ (C : Code) (n lost : ℕ) (table : List ℕ) (fits : n ≤ 32)
   -- filling by the table is filling by the equations
   pub filled-table : (L : ℕ) (stripe : List ℕ) → lost < 2 ^ n
       → filled n L (λ d. getD table d 0) lost stripe ≡ filled n L (equationAmong C lost) lost stripe
-  unfolding filled
   filled-table L stripe b =
-      tabulate-cong (length stripe) (by (λ d. getD table d 0)) (by (equationAmong C lost))
-      (λ p l. go p (has lost (p / L)) (λ t. equation-at (p / L) (below (p / L) t (below-or (p / L) n)) t))
+      filled-cong n L (λ d. getD table d 0) (equationAmong C lost) lost stripe (λ d t. equation-at d (below d t (below-or d n)) t)
     where
-      by : (ℕ → ℕ) → ℕ → ℕ
-      by E p = if has lost (p / L) then over n (E (p / L)) (byteOf L stripe (p % L)) else getD stripe p 0
-
       below : (d : ℕ) → T (has lost d) → (d < n) ⊎ (n ≤ d) → d < n
       below d t (inl l) = l
       below d t (inr l) = absurd (not-has lost d (bit-above n lost d b l) t)
-
-      go : (p : ℕ) (t : Bool) → (T t → getD table (p / L) 0 ≡ equationAmong C lost (p / L))
-          → (if t then over n (getD table (p / L) 0) (byteOf L stripe (p % L)) else getD stripe p 0)
-          ≡ (if t then over n (equationAmong C lost (p / L)) (byteOf L stripe (p % L)) else getD stripe p 0)
-      go p true q = ap (λ (E : ℕ). over n E (byteOf L stripe (p % L))) (q tt)
-      go p false q = refl

@@ -1,5 +1,5 @@
 pub mod Lengths
 pub mod Written
-pub mod Filling
 pub mod Patched
+pub mod Filling
 pub mod Vanishing

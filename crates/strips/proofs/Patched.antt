@@ -8,7 +8,7 @@ use mathlib.Core.List.{List}
 use Prim.Native.Nat.{ℕ, _+_, _-_, _*_, _/_, _%_, _≤_, _<_}
 use native.Mathlib.Nat.{add-assoc, div-add-mod', lt-of-lt-of-le, zero-add}
 use native.Mathlib.Omega.{arith}
-use lib.Arith.{digits-lt, digits-div}
+use lib.Arith.{digits-lt, digits-div, digits-mod}
 use lib.Dec.{T, leb, ltb}
 use lib.ListN.{length, getD, drop, length-drop}
 use lib.Seq.{ext-getD, paste, length-paste, getD-drop}
@@ -22,7 +22,15 @@ use Rattle.flat.specs.Repairs.{filled}
 use Rattle.flat.proofs.Lists.{length-tabulate, getD-tabulate}
 use Rattle.flat.proofs.Positions.{places}
 use Rattle.blocks.proofs.Pasted.{pasted-before, pasted-new, pasted-after}
-use Rattle.strips.proofs.Filling.{disk-of}
+
+-- a strip is the places of one disk
+pub disk-of : (l d p : ℕ) → 0 < l → d * l ≤ p → p < d * l + l → (p / l ≡ d) × (p % l ≡ p - d * l)
+disk-of l d p z h k =
+    let t : p - d * l < l = omega arith in
+    let e : p ≡ d * l + (p - d * l) = omega arith in (
+      ap (λ (x : ℕ). x / l) e ∙ digits-div d t,
+      ap (λ (x : ℕ). x % l) e ∙ digits-mod d t,
+    )
 
 -- ---- the bytes at the places that are done are new, the others those at entry
 

@@ -1,10 +1,10 @@
 -- `encoder::encode_columns` meets its contract: the parity strips are filled, each by its column.
 -- Assumes nothing.
-use mathlib.Core.Path.{_≡_, refl, ap, _∙_, subst}
-use Prim.Native.Nat.{ℕ, _+_, _*_, _≤_, _<_}
+use mathlib.Core.Path.{_≡_, ap, _∙_, subst}
+use Prim.Native.Nat.{ℕ, _≤_}
 use native.Mathlib.Omega.{arith}
 use lib.Dec.{T}
-use lib.ListN.{length, getD}
+use lib.ListN.{getD}
 use Rattle.gf2.specs.Sets.{has}
 use Rattle.flat.specs.Cards.{code, columnsIn, disks}
 use Rattle.flat.specs.Repairs.{filled, parities}

@@ -1,7 +1,6 @@
 -- `encoder::parity_sets` meets its contract: the first j columns are stored.
 -- Assumes nothing.
-use mathlib.Core.Path.{_≡_}
-use Prim.Native.Nat.{ℕ, _-_, _≤_}
+use Prim.Native.Nat.{_-_, _≤_}
 use Rattle.encoder.proofs.Laws.{Stored, stored-none, stored-more}
 use borrow.Author.Needs.{needs}
 use Rattle.encoder.proofs.parity_sets.Statement.{statement}

@@ -1,10 +1,10 @@
 -- `strips::all_vanish` meets its contract: the rows before j vanish.
 -- Assumes nothing.
-use mathlib.Core.Path.{_≡_, refl, sym, ap, _∙_}
-use Prim.Native.Nat.{ℕ, _+_, _-_, _*_, _≤_}
+use mathlib.Core.Path.{_≡_, sym, ap, _∙_}
+use Prim.Native.Nat.{_-_, _≤_}
 use native.Mathlib.Omega.{arith}
 use borrow.Author.Tests.{not-true, not-false}
-use lib.ListN.{length, getD, take}
+use lib.ListN.{length, take}
 use lib.Seq.{getD-take, length-take-le}
 use Rattle.flat.specs.Repairs.{vanishes}
 use Rattle.strips.proofs.Vanishing.{Tested, tested-none, tested-more, tested-not, tested-all}

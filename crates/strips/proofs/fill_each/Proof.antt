@@ -1,6 +1,6 @@
 -- `strips::fill_each` meets its contract: the strips of the targets below d are filled.
 -- Assumes nothing.
-use mathlib.Core.Path.{_≡_, refl, sym, ap, _∙_, subst}
+use mathlib.Core.Path.{_≡_, sym, _∙_, subst}
 use mathlib.Core.Logic.{⊎-elim}
 use Prim.Native.Nat.{ℕ, _+_, _-_, _*_, _≤_}
 use native.Mathlib.Nat.{mul-le-mul-right}
@@ -22,7 +22,8 @@ abbrev μ-loop : tie.MeasureT-loop
 μ-loop s₀ l n disks targets sets d₀ s d = disks - d
 
 loop-holds : tie.Need-loop-holds Inv-loop μ-loop
-loop-holds c = (search needs, filled-none _ _ _ _ _)
+loop-holds c =
+    let a = c .before .args in (search needs, filled-none (a .n) (a .l) (λ i. getD (a .t6) i 0) (a .targets) (a .s .now))
 
 -- in a turn the strip of disk d is within the strips
 inside : (c : tie.In-loop Inv-loop μ-loop) → c .before .loop .d * c .before .before .before .args .l + c .before .before .before .args .l ≤ c .before .before .before .args .disks * c .before .before .before .args .l
@@ -83,8 +84,10 @@ same-length c = search needs
 
 returns : tie.Need-returns Inv-loop μ-loop
 returns c =
-    let e : c .before .loop .d ≡ c .before .before .before .args .disks = search needs in
-    filled-all _ _ _ _ _ _ _ _ (c .before .loop .inv .1) e (search needs)
+    let lp = c .before .loop in
+    let a = c .before .before .before .args in
+    let e : lp .d ≡ a .disks = search needs in
+    filled-all (a .n) (a .l) (λ i. getD (a .t6) i 0) (a .targets) (a .s .now) (lp .d) (a .disks) (lp .s) (lp .inv .1) e (search needs)
 
 pub fill-each-spec : {M : Type 1} → statement M
 fill-each-spec =

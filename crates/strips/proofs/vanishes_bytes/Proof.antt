@@ -1,7 +1,6 @@
 -- `strips::vanishes_bytes` meets its contract: the bytes below t are 0.
 -- Assumes nothing.
-use mathlib.Core.Path.{_≡_}
-use Prim.Native.Nat.{ℕ, _-_, _≤_}
+use Prim.Native.Nat.{_-_, _≤_}
 use Rattle.strips.proofs.Vanishing.{Vanished, vanished-none, vanished-byte, vanished-other, vanished-all}
 use borrow.Author.Needs.{needs}
 use Rattle.strips.proofs.vanishes_bytes.Statement.{statement}

@@ -1,7 +1,7 @@
 -- `blocks::bytes::sum_1` meets its contract: the byte is the XOR of the strips so far.
 -- Assumes nothing.
 use mathlib.Core.Path.{_≡_, refl, ap, _∙_}
-use Prim.Native.Nat.{ℕ, _+_, _-_, _*_, _≤_, _<_, _^_}
+use Prim.Native.Nat.{ℕ, _+_, _-_, _*_, _≤_, _<_}
 use native.Mathlib.Omega.{arith}
 use Rattle.gf2.specs.Sets.{over}
 use Rattle.flat.specs.Strips.{byteOf}
