@@ -7,6 +7,7 @@
 #include <string.h>
 #include <time.h>
 
+#include "../tests/chance.h"
 #include "bridgecrumb.h"
 #include "peer.h"
 
@@ -14,16 +15,6 @@
 #define STACK_LIMIT (64 * 1024)
 
 /* ---- the cards */
-
-static uint64_t seed = 0x9e3779b97f4a7c15;
-
-static uint32_t pseudo_random(void) /* xorshift64 */
-{
-    seed ^= seed << 13;
-    seed ^= seed >> 7;
-    seed ^= seed << 17;
-    return (uint32_t)(seed >> 32);
-}
 
 static void put_column(uint8_t *card, int j, uint32_t column)
 {

@@ -7,6 +7,7 @@
 #include <string.h>
 #include <time.h>
 
+#include "../tests/chance.h"
 #include "bridgecrumb.h"
 #include "libraries.h"
 #include "plain.h"
@@ -19,16 +20,6 @@ static uint8_t stripe[LARGEST_STRIPE] __attribute__((aligned(64)));
 static uint8_t right[LARGEST_STRIPE];
 
 /* ---- the cards */
-
-static uint64_t seed = 0x9e3779b97f4a7c15;
-
-static uint32_t pseudo_random(void) /* xorshift64 */
-{
-    seed ^= seed << 13;
-    seed ^= seed >> 7;
-    seed ^= seed << 17;
-    return (uint32_t)(seed >> 32);
-}
 
 static void fill(uint8_t *bytes, size_t count)
 {

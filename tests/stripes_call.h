@@ -11,6 +11,7 @@
 #include <string.h>
 
 #include "bridgecrumb.h"
+#include "chance.h"
 #include "reference.h"
 
 #define GUARD 64
@@ -18,17 +19,7 @@
 #define LARGEST_STRIPE (32 * LARGEST_STRIP)
 #define LARGEST_CARD 300
 
-/* ---- chance, the same in every run */
-
-static uint64_t seed = 0x9e3779b97f4a7c15;
-
-static uint32_t pseudo_random(void) /* xorshift64 */
-{
-    seed ^= seed << 13;
-    seed ^= seed >> 7;
-    seed ^= seed << 17;
-    return (uint32_t)(seed >> 32);
-}
+/* ---- chance */
 
 static uint32_t below(uint32_t limit)
 {

@@ -36,8 +36,8 @@ pub(crate) fn added(block: [u8; 128], s: &[u8], at: usize) -> [u8; 128]
     out
 }
 
-// The same where disk i is in the set, else the block as it is: the one place that decides whether a strip
-// goes in.
+// The same where disk i is in the set, else the block as it is. Here, and in the two short forms of this,
+// is decided whether a strip goes in.
 fn joined(block: [u8; 128], s: &[u8], at: usize, set: u32, i: usize) -> [u8; 128]
     requires { ⌜ (i < 32) × (at + 128 ≤ length (now s)) ⌝ }
     ensures { λ r. ⌜ r ≡ (if has set i then tabulate 128 (λ t. getD block t 0 ⊕ getD (now (s .entry)) (at + t) 0) else block) ⌝ }

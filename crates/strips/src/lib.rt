@@ -1,9 +1,8 @@
 // Strips computed from other strips: those of some disks filled with the XOR of the strips of a set
 // each, and whether the XOR of the strips of each of some sets vanishes.
 //
-// A stripe has the strips of all disks, l bytes each. Strips go in blocks of 128 bytes, those shorter than
-// that in blocks of 16, and those shorter than 16 byte by byte; the last block lies over the end of the
-// one before it.
+// A stripe has the strips of all disks, l bytes each. Strips go in blocks of 128 bytes, shorter ones in
+// blocks of 16, and those below 16 byte by byte; the last block lies over the end of the one before it.
 ghost use mathlib.Core.Path.{_≡_};
 ghost use mathlib.Core.Bool.{_&&_};
 ghost use mathlib.Core.Logic.{_≢_};
@@ -28,7 +27,7 @@ pub fn length_ok(l: usize) -> bool
 }
 
 // The strip of disk d becomes the XOR of the strips of the disks below n that are in the set, which d is
-// not: strips of 128 bytes or more,
+// not. This is for strips of 128 bytes or more.
 fn fill_long(s: &mut [u8], l: usize, n: usize, set: u32, d: usize)
     requires { ⌜ (128 ≤ l) × (n ≤ 32) × (n * l ≤ length (now s)) × (d * l + l ≤ length (now s)) ⌝ }
     requires { ⌜ ((i : ℕ) → i < n → T (has set i) → i ≢ d) ⌝ }
@@ -48,7 +47,7 @@ fn fill_long(s: &mut [u8], l: usize, n: usize, set: u32, d: usize)
     }
 }
 
-// of 16 bytes or more,
+// The same for strips of 16 bytes or more.
 fn fill_short(s: &mut [u8], l: usize, n: usize, set: u32, d: usize)
     requires { ⌜ (16 ≤ l) × (n ≤ 32) × (n * l ≤ length (now s)) × (d * l + l ≤ length (now s)) ⌝ }
     requires { ⌜ ((i : ℕ) → i < n → T (has set i) → i ≢ d) ⌝ }
@@ -68,7 +67,7 @@ fn fill_short(s: &mut [u8], l: usize, n: usize, set: u32, d: usize)
     }
 }
 
-// shorter than 128 bytes, in one block that goes over their end, where the slice has its bytes,
+// The same for strips shorter than 128 bytes, in one block over their end. The slice has to have its bytes.
 fn fill_over(s: &mut [u8], l: usize, n: usize, set: u32, d: usize)
     requires { ⌜ (1 ≤ l) × (l ≤ 128) × (n ≤ 32) × (n * l + 128 ≤ length (now s) + l) × (d * l + l ≤ length (now s)) ⌝ }
     ensures { λ _. ⌜ now (s .exit) ≡ filled n l (λ _. set) (2 ^ d) (now (s .entry)) ⌝ }
@@ -77,7 +76,7 @@ fn fill_over(s: &mut [u8], l: usize, n: usize, set: u32, d: usize)
     blocks::put_first(s, d * l, block, l);
 }
 
-// and of any length.
+// The same for strips of any length, byte by byte.
 fn fill_bytes(s: &mut [u8], l: usize, n: usize, set: u32, d: usize)
     requires { ⌜ (1 ≤ l) × (n ≤ 32) × (n * l ≤ length (now s)) × (d * l + l ≤ length (now s)) ⌝ }
     requires { ⌜ ((i : ℕ) → i < n → T (has set i) → i ≢ d) ⌝ }
@@ -101,7 +100,7 @@ fn over_ok(size: usize, l: usize, n: usize) -> bool
     n * l + 128 <= size + l
 }
 
-// The same, by what suits the strips' length.
+// The same in the way that suits the strips' length.
 fn fill_strip(s: &mut [u8], l: usize, n: usize, set: u32, d: usize)
     requires { ⌜ (1 ≤ l) × (n ≤ 32) × (n * l ≤ length (now s)) × (d * l + l ≤ length (now s)) ⌝ }
     requires { ⌜ ((i : ℕ) → i < n → T (has set i) → i ≢ d) ⌝ }
@@ -147,8 +146,8 @@ pub fn fill(s: &mut [u8], l: usize, n: usize, disks: usize, targets: u32, sets: 
     }
 }
 
-// Whether the XOR of the strips of the disks below n that are in the set vanishes: strips of 128 bytes or
-// more,
+// Whether the XOR of the strips of the disks below n that are in the set vanishes. This is for strips of
+// 128 bytes or more.
 fn vanishes_long(s: &[u8], l: usize, n: usize, set: u32) -> bool
     requires { ⌜ (128 ≤ l) × (l ≤ 65536) × (n ≤ 32) × (n * l ≤ length (now s)) ⌝ }
     ensures { λ r. ⌜ r ≡ vanishes n l (now (s .entry)) set ⌝ }
@@ -169,7 +168,7 @@ fn vanishes_long(s: &[u8], l: usize, n: usize, set: u32) -> bool
     true
 }
 
-// of 16 bytes or more,
+// The same for strips of 16 bytes or more.
 fn vanishes_short(s: &[u8], l: usize, n: usize, set: u32) -> bool
     requires { ⌜ (16 ≤ l) × (l ≤ 65536) × (n ≤ 32) × (n * l ≤ length (now s)) ⌝ }
     ensures { λ r. ⌜ r ≡ vanishes n l (now (s .entry)) set ⌝ }
@@ -187,7 +186,7 @@ fn vanishes_short(s: &[u8], l: usize, n: usize, set: u32) -> bool
     true
 }
 
-// and of any length.
+// The same for strips of any length, byte by byte.
 fn vanishes_bytes(s: &[u8], l: usize, n: usize, set: u32) -> bool
     requires { ⌜ (n ≤ 32) × (n * l ≤ length (now s)) ⌝ }
     ensures { λ r. ⌜ r ≡ vanishes n l (now (s .entry)) set ⌝ }
@@ -200,7 +199,7 @@ fn vanishes_bytes(s: &[u8], l: usize, n: usize, set: u32) -> bool
     true
 }
 
-// The same, by what suits the strips' length.
+// The same in the way that suits the strips' length.
 fn strip_vanishes(s: &[u8], l: usize, n: usize, set: u32) -> bool
     requires { ⌜ (l ≤ 65536) × (n ≤ 32) × (n * l ≤ length (now s)) ⌝ }
     ensures { λ r. ⌜ r ≡ vanishes n l (now (s .entry)) set ⌝ }
