@@ -1,4 +1,5 @@
 pub mod Loops
 pub mod Pasted
+pub mod Written
 pub mod Summed
 pub mod Placed

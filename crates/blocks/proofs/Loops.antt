@@ -62,7 +62,7 @@ copied-all s₀ src s at i n r e = r .so-far ∙ ap (paste s₀ at src) e
 -- ---- bytes joined by OR
 
 -- the OR of two numbers is 0 where both are
-or-none : (a b : ℕ) → eqb (bitOr a b) 0 ≡ (eqb a 0 && eqb b 0)
+pub or-none : (a b : ℕ) → eqb (bitOr a b) 0 ≡ (eqb a 0 && eqb b 0)
 or-none a b =
     T-ext
     (λ t. let z : bitOr a b ≡ 0 = eqb-out (bitOr a b) 0 t in

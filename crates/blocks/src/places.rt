@@ -1,9 +1,10 @@
 // The strips of a set as a list of places, so that only they are visited: for the many blocks of strips
 // that are only read.
 ghost use mathlib.Core.Path.{_≡_};
-ghost use Prim.Native.Nat.{ℕ, _+_, _*_, _<_, _≤_};
+ghost use Prim.Native.Nat.{ℕ, _+_, _*_, _^_, _<_, _≤_};
+ghost use lib.Dec.{T};
 ghost use lib.ListN.{length, getD};
-ghost use Rattle.gf2.specs.Sets.{over};
+ghost use Rattle.gf2.specs.Sets.{has, over};
 ghost use Rattle.flat.specs.Lists.{tabulate};
 ghost use Rattle.blocks.specs.Totals.{total};
 use crate::added;
@@ -16,9 +17,9 @@ pub struct Members {
 
 // The strips of the disks below n that are in the set.
 pub fn members_of(set: u32, n: usize, l: usize) -> Members
-    requires { ⌜ (n ≤ 32) × (l ≤ 65536) ⌝ }
+    requires { ⌜ (n ≤ 32) × (n * l < 2 ^ 64) ⌝ }
     ensures { λ r. ⌜ r .count ≤ n ⌝ }
-    ensures { λ r. ⌜ ((j : ℕ) → j < r .count → getD (r .at) j 0 + l ≤ n * l) ⌝ }
+    ensures { λ r. ⌜ ((j : ℕ) → j < r .count → (i : ℕ) × (i < n) × T (has set i) × (getD (r .at) j 0 ≡ i * l)) ⌝ }
     ensures { λ r. ⌜ ((f : ℕ → ℕ) → total (r .count) (λ j. f (getD (r .at) j 0)) ≡ over n set (λ i. f (i * l))) ⌝ }
 {
     let mut at = [0usize; 32];

@@ -18,7 +18,8 @@ use Rattle.flat.specs.Strips.{byteOf}
 use Rattle.flat.specs.Repairs.{filled}
 use Rattle.flat.proofs.Lists.{length-tabulate, getD-tabulate}
 use Rattle.flat.proofs.Positions.{places}
-use Rattle.strips.proofs.Written.{Written, strip}
+use Rattle.blocks.proofs.Written.{Written}
+use Rattle.strips.proofs.Written.{strip}
 use Rattle.strips.proofs.Patched.{disk-of, Patched, patched-none, patched-same, patched-more, patched-all}
 
 -- a strip that is written is filled

@@ -3,3 +3,4 @@ pub mod Written
 pub mod Patched
 pub mod Filling
 pub mod Vanishing
+pub mod Streamed

@@ -47,6 +47,24 @@ fn fill_long(s: &mut [u8], l: usize, n: usize, set: u32, d: usize)
     }
 }
 
+// The same for long strips: up to four as streams.
+fn fill_few(s: &mut [u8], l: usize, n: usize, set: u32, d: usize)
+    requires { ⌜ (128 ≤ l) × (n ≤ 32) × (n * l ≤ length (now s)) × (d * l + l ≤ length (now s)) ⌝ }
+    requires { ⌜ ((i : ℕ) → i < n → T (has set i) → i ≢ d) ⌝ }
+    ensures { λ _. ⌜ now (s .exit) ≡ filled n l (λ _. set) (2 ^ d) (now (s .entry)) ⌝ }
+{
+    let members = blocks::members_of(set, n, l);
+    let at = members.at;
+    let count = members.count;
+    if count < 1 {
+        fill_long(s, l, n, set, d);
+    } else if 4 < count {
+        fill_long(s, l, n, set, d);
+    } else {
+        streams::fill(s, d * l, l, at, count);
+    }
+}
+
 // The same for strips of 16 bytes or more.
 fn fill_short(s: &mut [u8], l: usize, n: usize, set: u32, d: usize)
     requires { ⌜ (16 ≤ l) × (n ≤ 32) × (n * l ≤ length (now s)) × (d * l + l ≤ length (now s)) ⌝ }
@@ -106,7 +124,9 @@ fn fill_strip(s: &mut [u8], l: usize, n: usize, set: u32, d: usize)
     requires { ⌜ ((i : ℕ) → i < n → T (has set i) → i ≢ d) ⌝ }
     ensures { λ _. ⌜ now (s .exit) ≡ filled n l (λ _. set) (2 ^ d) (now (s .entry)) ⌝ }
 {
-    if 128 <= l {
+    if 1024 <= l {
+        fill_few(s, l, n, set, d);
+    } else if 128 <= l {
         fill_long(s, l, n, set, d);
     } else if over_ok(s.len(), l, n) {
         fill_over(s, l, n, set, d);
@@ -168,6 +188,23 @@ fn vanishes_long(s: &[u8], l: usize, n: usize, set: u32) -> bool
     true
 }
 
+// The same for long strips: up to six as streams.
+fn vanishes_few(s: &[u8], l: usize, n: usize, set: u32) -> bool
+    requires { ⌜ (128 ≤ l) × (l ≤ 65536) × (n ≤ 32) × (n * l ≤ length (now s)) ⌝ }
+    ensures { λ r. ⌜ r ≡ vanishes n l (now (s .entry)) set ⌝ }
+{
+    let members = blocks::members_of(set, n, l);
+    let at = members.at;
+    let count = members.count;
+    if count < 1 {
+        return vanishes_long(s, l, n, set);
+    }
+    if 6 < count {
+        return vanishes_long(s, l, n, set);
+    }
+    streams::vanishes(s, l, at, count)
+}
+
 // The same for strips of 16 bytes or more.
 fn vanishes_short(s: &[u8], l: usize, n: usize, set: u32) -> bool
     requires { ⌜ (16 ≤ l) × (l ≤ 65536) × (n ≤ 32) × (n * l ≤ length (now s)) ⌝ }
@@ -204,6 +241,9 @@ fn strip_vanishes(s: &[u8], l: usize, n: usize, set: u32) -> bool
     requires { ⌜ (l ≤ 65536) × (n ≤ 32) × (n * l ≤ length (now s)) ⌝ }
     ensures { λ r. ⌜ r ≡ vanishes n l (now (s .entry)) set ⌝ }
 {
+    if 1024 <= l {
+        return vanishes_few(s, l, n, set);
+    }
     if 128 <= l {
         return vanishes_long(s, l, n, set);
     }

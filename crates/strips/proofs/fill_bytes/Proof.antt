@@ -4,7 +4,8 @@ use mathlib.Core.Path.{_≡_, refl, sym, subst}
 use Prim.Native.Nat.{ℕ, _+_, _-_, _*_, _≤_}
 use native.Mathlib.Omega.{arith}
 use lib.ListN.{set}
-use Rattle.strips.proofs.Written.{Written, strip, written-start, strip-byte}
+use Rattle.blocks.proofs.Written.{Written, written-start}
+use Rattle.strips.proofs.Written.{strip, strip-byte}
 use Rattle.strips.proofs.Filling.{strip-filled}
 use borrow.Author.Needs.{needs}
 use Rattle.strips.proofs.fill_bytes.Statement.{statement}

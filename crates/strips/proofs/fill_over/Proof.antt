@@ -3,7 +3,8 @@
 use mathlib.Core.Path.{sym, subst}
 use mathlib.Core.List.{List}
 use Prim.Native.Nat.{ℕ, _+_, _*_}
-use Rattle.strips.proofs.Written.{Written, strip, strip-whole}
+use Rattle.blocks.proofs.Written.{Written}
+use Rattle.strips.proofs.Written.{strip, strip-whole}
 use Rattle.strips.proofs.Filling.{strip-filled}
 use borrow.Author.Needs.{needs}
 use Rattle.strips.proofs.fill_over.Statement.{statement}

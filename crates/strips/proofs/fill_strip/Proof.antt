@@ -10,6 +10,9 @@ use borrow.Author.Needs.{needs}
 use Rattle.strips.proofs.fill_strip.Statement.{statement}
 use Rattle.strips.proofs.fill_strip.Tie as tie
 
+fill-few-requires : tie.Need-fill-few-requires
+fill-few-requires c κs = search needs
+
 fill-long-requires : tie.Need-fill-long-requires
 fill-long-requires c κs = search needs
 
@@ -19,9 +22,9 @@ over-ok-requires c κs = search needs
 fill-over-requires : tie.Need-fill-over-requires
 fill-over-requires c κs =
     let o = c .before .before in
-    let st = o .before .before .before in
+    let st = o .before .before .before .before in
     let a = st .args in
-    let t = and-out (ltb 32 (a .l)) (leb (a .n * a .l + 128) (length (a .s .now) + a .l)) (true-T (sym (o .over-ok .ensures) ∙ c .before .if2 .taken)) in
+    let t = and-out (ltb 32 (a .l)) (leb (a .n * a .l + 128) (length (a .s .now) + a .l)) (true-T (sym (o .over-ok .ensures) ∙ c .before .if3 .taken)) in
     omega (arith, leb-out (a .n * a .l + 128) (length (a .s .now) + a .l) (t .1))
 
 fill-short-requires : tie.Need-fill-short-requires
@@ -54,10 +57,17 @@ same-length-4 c = search needs
 returns-4 : tie.Need-returns-4
 returns-4 c = search needs
 
+same-length-5 : tie.Need-same-length-5
+same-length-5 c = search needs
+
+returns-5 : tie.Need-returns-5
+returns-5 c = search needs
+
 pub fill-strip-spec : {M : Type 1} → statement M
 fill-strip-spec =
     tie.close
     (tie.spec
+    fill-few-requires
     fill-long-requires
     over-ok-requires
     fill-over-requires
@@ -70,4 +80,6 @@ fill-strip-spec =
     same-length-3
     returns-3
     same-length-4
-    returns-4)
+    returns-4
+    same-length-5
+    returns-5)

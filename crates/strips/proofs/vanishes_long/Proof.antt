@@ -4,6 +4,7 @@ use mathlib.Core.Path.{_≡_, sym, _∙_}
 use borrow.Author.Tests.{not-true, not-false}
 use Prim.Native.Nat.{ℕ, _+_, _-_, _*_, _≤_}
 use native.Mathlib.Omega.{arith}
+use Rattle.blocks.proofs.Placed.{place-inside}
 use Rattle.strips.proofs.Vanishing.{Vanished, vanished-none, vanished-more, vanished-not, vanished-last, vanished-all, block-at}
 use borrow.Author.Needs.{needs}
 use Rattle.strips.proofs.vanishes_long.Statement.{statement}
@@ -28,7 +29,7 @@ sum-at-requires : tie.Need-sum-at-requires Inv-loop μ-loop
 sum-at-requires c κs =
     let g = c .before .before .before .before in
     let r = g .members-of in
-    ((search needs, omega (arith, r .ensures .0, g .before .before .pre)), λ j h. omega (arith, r .ensures .1 .0 j h, g .before .before .pre))
+    ((search needs, omega (arith, r .ensures .0, g .before .before .pre)), λ j h. let p = r .ensures .1 .0 j h in omega (arith, place-inside _ _ _ _ (p .1) (p .3), g .before .before .pre))
 
 is-zero-requires : tie.Need-is-zero-requires Inv-loop μ-loop
 is-zero-requires c κs = search needs
@@ -60,7 +61,7 @@ sum-at-requires-2 : tie.Need-sum-at-requires-2 Inv-loop μ-loop
 sum-at-requires-2 c κs =
     let g = c .before .before .before .before .before in
     let r = g .members-of in
-    ((search needs, omega (arith, r .ensures .0, g .before .before .pre)), λ j h. omega (arith, r .ensures .1 .0 j h, g .before .before .pre))
+    ((search needs, omega (arith, r .ensures .0, g .before .before .pre)), λ j h. let p = r .ensures .1 .0 j h in omega (arith, place-inside _ _ _ _ (p .1) (p .3), g .before .before .pre))
 
 is-zero-requires-2 : tie.Need-is-zero-requires-2 Inv-loop μ-loop
 is-zero-requires-2 c κs = search needs

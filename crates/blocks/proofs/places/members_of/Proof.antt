@@ -37,7 +37,7 @@ mul-at : tie.Need-mul-at Inv-loop μ-loop
 mul-at c =
     let lp = c .before .before .before .loop in
     let st = c .before .before .before .before in
-    let h : lp .i ≤ 32 = search needs in
+    let h : lp .i ≤ st .args .n = search needs in
     record { fits = omega (arith, mul-le-mul-right (st .args .l) h, st .pre) }
 
 mul-at-2 : tie.Need-mul-at-2 Inv-loop μ-loop
@@ -77,7 +77,7 @@ returns c =
     let p = c .before .loop .inv .1 in
     let a = c .before .before .args in
     let e : c .before .loop .i ≡ a .n = search needs in
-    (omega (arith, p .few), (p .inside, λ f. p .same f ∙ ap (λ (i : ℕ). over i (a .set) (λ d. f (d * a .l))) e))
+    (omega (arith, p .few), (p .strips, λ f. p .same f ∙ ap (λ (i : ℕ). over i (a .set) (λ d. f (d * a .l))) e))
 
 pub members-of-spec : {M : Type 1} → statement M
 members-of-spec =

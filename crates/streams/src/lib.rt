@@ -1,0 +1,118 @@
+// A few strips at once, from end to end: each is read as one stream, which suits the machine's
+// prefetching. For sets of few disks and long strips.
+//
+// A list of places says where the strips start, l bytes each. It is filled up to a fixed length with pairs
+// of one place, which cancel.
+ghost use mathlib.Core.Path.{_≡_};
+ghost use mathlib.Core.Logic.{_≢_};
+ghost use Prim.Native.Nat.{ℕ, _+_, _-_, _%_, _<_, _≤_};
+ghost use lib.Dec.{eqb};
+ghost use lib.ListN.{length, getD};
+ghost use Rattle.flat.specs.Lists.{every};
+ghost use Rattle.blocks.specs.Totals.{total};
+ghost use Rattle.streams.specs.Streams.{Apart, streamed};
+
+// The first count places, and pairs of the first place up to size.
+fn filled_up(at: [usize; 32], count: usize, size: usize) -> [usize; 32]
+    requires { ⌜ (1 ≤ count) × (count ≤ size) × (size ≤ 32) × ((size - count) % 2 ≡ 0) ⌝ }
+    ensures { λ r. ⌜ ((j : ℕ) → j < size → (i : ℕ) × (i < count) × (getD r j 0 ≡ getD at i 0)) ⌝ }
+    ensures { λ r. ⌜ ((f : ℕ → ℕ) → total size (λ j. f (getD r j 0)) ≡ total count (λ j. f (getD at j 0))) ⌝ }
+{
+    let first = at[0];
+    let mut out = at;
+    let mut j = count;
+    while j < size {
+        out[j] = first;
+        out[j + 1] = first;
+        j += 2;
+    }
+    out
+}
+
+// The XOR of three strips, put into the l bytes from p on.
+fn fill_3(s: &mut [u8], p: usize, l: usize, at: [usize; 32])
+    requires { ⌜ (p + l ≤ length (now s)) × Apart (now s) p l at 3 ⌝ }
+    ensures { λ _. ⌜ now (s .exit) ≡ streamed (now (s .entry)) p l (λ t. total 3 (λ j. getD (now (s .entry)) (getD at j 0 + t) 0)) ⌝ }
+{
+    let a = at[0];
+    let b = at[1];
+    let c = at[2];
+    for t in 0..l {
+        let byte = s[a + t] ^ s[b + t] ^ s[c + t];
+        s[p + t] = byte;
+    }
+}
+
+// The XOR of four strips, put into the l bytes from p on.
+fn fill_4(s: &mut [u8], p: usize, l: usize, at: [usize; 32])
+    requires { ⌜ (p + l ≤ length (now s)) × Apart (now s) p l at 4 ⌝ }
+    ensures { λ _. ⌜ now (s .exit) ≡ streamed (now (s .entry)) p l (λ t. total 4 (λ j. getD (now (s .entry)) (getD at j 0 + t) 0)) ⌝ }
+{
+    let a = at[0];
+    let b = at[1];
+    let c = at[2];
+    let d = at[3];
+    for t in 0..l {
+        let byte = s[a + t] ^ s[b + t] ^ s[c + t] ^ s[d + t];
+        s[p + t] = byte;
+    }
+}
+
+// The XOR of the strips at one to four places, put into the l bytes from p on.
+pub fn fill(s: &mut [u8], p: usize, l: usize, at: [usize; 32], count: usize)
+    requires { ⌜ (p + l ≤ length (now s)) × (1 ≤ count) × (count ≤ 4) × Apart (now s) p l at count ⌝ }
+    ensures { λ _. ⌜ now (s .exit) ≡ streamed (now (s .entry)) p l (λ t. total count (λ j. getD (now (s .entry)) (getD at j 0 + t) 0)) ⌝ }
+{
+    if count % 2 == 1 {
+        fill_3(s, p, l, filled_up(at, count, 3));
+    } else {
+        fill_4(s, p, l, filled_up(at, count, 4));
+    }
+}
+
+// Whether the XOR of five strips has no byte but 0.
+fn vanishes_5(s: &[u8], l: usize, at: [usize; 32]) -> bool
+    requires { ⌜ ((j : ℕ) → j < 5 → getD at j 0 + l ≤ length (now s)) ⌝ }
+    ensures { λ r. ⌜ r ≡ every l (λ t. eqb (total 5 (λ j. getD (now (s .entry)) (getD at j 0 + t) 0)) 0) ⌝ }
+{
+    let a = at[0];
+    let b = at[1];
+    let c = at[2];
+    let d = at[3];
+    let e = at[4];
+    let mut any = 0u8;
+    for t in 0..l {
+        any = any | (s[a + t] ^ s[b + t] ^ s[c + t] ^ s[d + t] ^ s[e + t]);
+    }
+    any == 0
+}
+
+// Whether the XOR of six strips has no byte but 0.
+fn vanishes_6(s: &[u8], l: usize, at: [usize; 32]) -> bool
+    requires { ⌜ ((j : ℕ) → j < 6 → getD at j 0 + l ≤ length (now s)) ⌝ }
+    ensures { λ r. ⌜ r ≡ every l (λ t. eqb (total 6 (λ j. getD (now (s .entry)) (getD at j 0 + t) 0)) 0) ⌝ }
+{
+    let a = at[0];
+    let b = at[1];
+    let c = at[2];
+    let d = at[3];
+    let e = at[4];
+    let f = at[5];
+    let mut any = 0u8;
+    for t in 0..l {
+        any = any | (s[a + t] ^ s[b + t] ^ s[c + t] ^ s[d + t] ^ s[e + t] ^ s[f + t]);
+    }
+    any == 0
+}
+
+// Whether the XOR of the strips at one to six places has no byte but 0.
+pub fn vanishes(s: &[u8], l: usize, at: [usize; 32], count: usize) -> bool
+    requires { ⌜ (1 ≤ count) × (count ≤ 6) ⌝ }
+    requires { ⌜ ((j : ℕ) → j < count → getD at j 0 + l ≤ length (now s)) ⌝ }
+    ensures { λ r. ⌜ r ≡ every l (λ t. eqb (total count (λ j. getD (now (s .entry)) (getD at j 0 + t) 0)) 0) ⌝ }
+{
+    if count % 2 == 1 {
+        return vanishes_5(s, l, filled_up(at, count, 5));
+    }
+    vanishes_6(s, l, filled_up(at, count, 6))
+}
