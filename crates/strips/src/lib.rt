@@ -47,7 +47,7 @@ fn fill_long(s: &mut [u8], l: usize, n: usize, set: u32, d: usize)
     }
 }
 
-// The same for long strips: up to four as streams.
+// The same for long strips: one to four as streams.
 fn fill_few(s: &mut [u8], l: usize, n: usize, set: u32, d: usize)
     requires { ⌜ (128 ≤ l) × (n ≤ 32) × (n * l ≤ length (now s)) × (d * l + l ≤ length (now s)) ⌝ }
     requires { ⌜ ((i : ℕ) → i < n → T (has set i) → i ≢ d) ⌝ }
@@ -188,7 +188,7 @@ fn vanishes_long(s: &[u8], l: usize, n: usize, set: u32) -> bool
     true
 }
 
-// The same for long strips: up to six as streams.
+// The same for long strips: four to six as streams.
 fn vanishes_few(s: &[u8], l: usize, n: usize, set: u32) -> bool
     requires { ⌜ (128 ≤ l) × (l ≤ 65536) × (n ≤ 32) × (n * l ≤ length (now s)) ⌝ }
     ensures { λ r. ⌜ r ≡ vanishes n l (now (s .entry)) set ⌝ }
@@ -196,7 +196,7 @@ fn vanishes_few(s: &[u8], l: usize, n: usize, set: u32) -> bool
     let members = blocks::members_of(set, n, l);
     let at = members.at;
     let count = members.count;
-    if count < 1 {
+    if count < 4 {
         return vanishes_long(s, l, n, set);
     }
     if 6 < count {
