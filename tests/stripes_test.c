@@ -164,7 +164,9 @@ static void stripes_of(struct call *c)
 
 static void random_codes(void)
 {
-    static const size_t strip_lens[] = {1, 2, 3, 15, 16, 17, 100, 127, 128, 129, 255, 256, 257, 1000, 4096};
+    /* on both sides of each length at which the engine goes another way, and of each block's end */
+    static const size_t strip_lens[] = {1,   2,   3,   15,  16,   17,   31,   32,   33,   100,  127, 128,
+                                        129, 255, 256, 257, 1000, 1023, 1024, 1025, 4096, 8191, 8192, 8193};
     struct call c;
     part = "random cards";
     for (int card = 0; card < RANDOM_CARDS; card++) {
@@ -174,7 +176,7 @@ static void random_codes(void)
             c.lost = random_set(n, below(largest + 1));
             if (set == 0)
                 c.lost |= (uint32_t)1 << (n - 1);
-            set_strip_len(&c, strip_lens[below(15)]);
+            set_strip_len(&c, strip_lens[below(sizeof strip_lens / sizeof *strip_lens)]);
             stripes_of(&c);
         }
     }

@@ -4,7 +4,6 @@
 // A list of places says where the strips start, l bytes each. It is filled up to a fixed length with pairs
 // of one place, which cancel.
 ghost use mathlib.Core.Path.{_≡_};
-ghost use mathlib.Core.Logic.{_≢_};
 ghost use Prim.Native.Nat.{ℕ, _+_, _-_, _%_, _<_, _≤_};
 ghost use lib.Dec.{eqb};
 ghost use lib.ListN.{length, getD};
