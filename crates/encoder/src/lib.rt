@@ -25,7 +25,7 @@ pub enum Encoded {
     StripeLength,
 }
 
-// The column of each parity disk, at the disk's place; at the other places the empty set.
+// The column of each parity disk, at the disk's place. The other places mean nothing.
 fn parity_sets(columns: &[u8], k: usize, m: usize) -> [u32; 32]
     requires { ⌜ (k ≤ 16) × (m ≤ 16) × (2 * m ≤ length (now columns)) ⌝ }
     ensures { λ r. ⌜ ((j : ℕ) → j < m → getD r (k + j) 0 ≡ field (2 * j) 2 (now (columns .entry))) ⌝ }

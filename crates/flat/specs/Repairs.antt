@@ -3,14 +3,14 @@
 -- Assumes nothing.
 use mathlib.Core.Bool.{Bool, true, not, _&&_}
 use mathlib.Core.List.{List, [], _∷_}
-use Prim.Native.Nat.{ℕ, _-_, _/_, _%_, _^_}
+use Prim.Native.Nat.{ℕ, _/_, _%_, _^_}
 use lib.Dec.{eqb, ltb}
 use lib.ListN.{length, getD}
 use Rattle.gf2.specs.If.{if_then_else_}
 use Rattle.gf2.specs.Sets.{has, _⊕_, _∖_, over}
 use Rattle.gf2.specs.Within.{within}
 use Rattle.flat.specs.Lists.{every, setOf, tabulate}
-use Rattle.flat.specs.Cards.{Code, disks, column}
+use Rattle.flat.specs.Cards.{Code, disks}
 use Rattle.flat.specs.Strips.{byteOf}
 use Rattle.flat.specs.Erasures.{survivors}
 use Rattle.flat.specs.Spans.{checks}
