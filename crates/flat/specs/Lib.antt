@@ -12,4 +12,5 @@ pub mod Spans
 pub mod Repairs
 pub mod Theorems
 pub mod Rebuilt
+pub mod Recorded
 pub mod Demand3
