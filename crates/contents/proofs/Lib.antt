@@ -1,3 +1,4 @@
 pub mod Counted
-pub mod Lengths
 pub mod Putting
+pub mod Lengths
+pub mod Blocks
