@@ -32,18 +32,19 @@ pub run-none : (s new : List ℕ) (at : ℕ) → Run s new at 0 s
 run-none s new at = record { within = omega arith; so-far = sym (put-none s at); long = refl }
 
 -- and n more
-pub run-more : (s₀ new s : List ℕ) (at o n : ℕ) → Run s₀ new at o s → at + length new ≤ length s₀ → o + n ≤ length new
-    → Run s₀ new at (o + n) (put s (at + o) (take n (drop o new)))
-run-more s₀ new s at o n r h k =
+pub run-more : (s₀ new s s' block : List ℕ) (at o n : ℕ) → Run s₀ new at o s → at + length new ≤ length s₀ → o + n ≤ length new
+    → block ≡ take n (drop o new) → s' ≡ put s (at + o) block → Run s₀ new at (o + n) s'
+run-more s₀ new s s' block at o n r h k e f =
     let a : length (take o new) ≡ o = length-take-le o new (r .within) in
+    let is : s' ≡ put s (at + o) (take n (drop o new)) = f ∙ ap (put s (at + o)) e in
     let b : length (take n (drop o new)) ≡ n = length-take-le n (drop o new) (omega (arith, length-drop o new)) in
     record {
       within = k;
       so-far =
-          ap (λ (x : List ℕ). put x (at + o) (take n (drop o new))) (r .so-far)
+          is ∙ ap (λ (x : List ℕ). put x (at + o) (take n (drop o new))) (r .so-far)
           ∙ put-next s₀ at (at + o) (take o new) (take n (drop o new)) (ap (λ (x : ℕ). at + x) (sym a)) (omega arith)
           ∙ ap (put s₀ at) (sym (take-add o n new));
-      long = length-put s (at + o) (take n (drop o new)) (omega (arith, r .long)) ∙ r .long;
+      long = ap length is ∙ length-put s (at + o) (take n (drop o new)) (omega (arith, r .long)) ∙ r .long;
     }
 
 -- the rest
