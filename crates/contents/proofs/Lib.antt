@@ -1,3 +1,5 @@
 pub mod Compared
 pub mod Counted
+pub mod Lengths
 pub mod Numbers
+pub mod Putting
