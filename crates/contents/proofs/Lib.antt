@@ -1,3 +1,5 @@
+pub mod Numbers
+pub mod Compared
 pub mod Counted
 pub mod Putting
 pub mod Lengths

@@ -58,14 +58,15 @@ unfolding each range
 laid-none f s at = record { so-far = sym (put-none s at); long = refl }
 
 -- the next run goes to b, right after those before it
-pub laid-more : (f : ℕ → List ℕ) (s₀ s : List ℕ) (at i b : ℕ) → Laid f s₀ at i s → b ≡ at + length (each f (range 0 i))
-    → b + length (f i) ≤ length s₀ → Laid f s₀ at (i + 1) (put s b (f i))
-laid-more f s₀ s at i b r e h =
+pub laid-more : (f : ℕ → List ℕ) (s₀ s next new : List ℕ) (at i b : ℕ) → Laid f s₀ at i s → next ≡ put s b new → new ≡ f i
+    → b ≡ at + length (each f (range 0 i)) → b + length (f i) ≤ length s₀ → Laid f s₀ at (i + 1) next
+laid-more f s₀ s next new at i b r q w e h =
+    let p : next ≡ put s b (f i) = q ∙ ap (put s b) w in
     record {
       so-far =
-          ap (λ (x : List ℕ). put x b (f i)) (r .so-far) ∙ put-next s₀ at b (each f (range 0 i)) (f i) e (omega arith)
+          p ∙ ap (λ (x : List ℕ). put x b (f i)) (r .so-far) ∙ put-next s₀ at b (each f (range 0 i)) (f i) e (omega arith)
           ∙ ap (put s₀ at) (sym (each-suc f i) ∙ ap (λ (n : ℕ). each f (range 0 n)) (sym (add-one i)));
-      long = length-put s b (f i) (omega (arith, r .long)) ∙ r .long;
+      long = ap length p ∙ length-put s b (f i) (omega (arith, r .long)) ∙ r .long;
     }
 
 pub laid-all : (f : ℕ → List ℕ) (s₀ s : List ℕ) (at i n : ℕ) → Laid f s₀ at i s → i ≡ n → s ≡ put s₀ at (each f (range 0 n))
