@@ -3,8 +3,10 @@ pub mod Reports
 pub mod Cards
 pub mod RoundTrip
 pub mod Numbers
+pub mod Standing
 pub mod Entries
 pub mod Received
+pub mod Parts
 pub mod Quantifiers
 pub mod Words
 pub mod Rows
