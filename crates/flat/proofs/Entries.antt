@@ -2,7 +2,7 @@
 -- Assumes nothing.
 use mathlib.Core.Path.{_≡_, refl, sym, ap, _∙_}
 use mathlib.Core.Bool.{Bool, true, false, not}
-use mathlib.Core.List.{[], _∷_, _++_, append-nil}
+use mathlib.Core.List.{List, [], _∷_, _++_, append-nil}
 use Prim.Native.Nat.{ℕ, suc, _+_, _*_, _^_, _≤_, _<_}
 use native.Mathlib.Nat.{mul-le-mul-left, mul-le-mul-right}
 use native.Mathlib.Omega.{arith}
@@ -11,11 +11,12 @@ use lib.ListN.{length, length-append}
 use Rattle.gf2.specs.If.{if_then_else_}
 use Rattle.gf2.specs.Sets.{has}
 use Rattle.gf2.proofs.Tests.{true-T, and-out, not-in, leb-out}
-use Rattle.flat.specs.Lists.{count, bytes, field}
+use Rattle.flat.specs.Lists.{count, bytes, number, field}
 use Rattle.flat.specs.Cards.{Code, disks, cardLength}
 use Rattle.flat.specs.Strips.{lengthOk}
 use Rattle.flat.specs.Records.{entryCount, bodiesAt, entry, bodyAt, recordLength, stripEntry}
-use Rattle.flat.proofs.Numbers.{length-bytes, field-bytes, count-le, count-below}
+use Rattle.flat.proofs.Numbers.{length-bytes, number-bytes, field-bytes, count-le, count-below}
+use Rattle.flat.proofs.Standing.{Stands, stands-take}
 
 -- a strip's length that passed its test
 pub length-in : (L : ℕ) → lengthOk L ≡ true → (1 ≤ L) × (L ≤ 65536)
@@ -23,6 +24,11 @@ unfolding lengthOk
 length-in L e = let p = and-out (leb 1 L) (leb L 65536) (true-T e) in (leb-out 1 L (p .0), leb-out L 65536 (p .1))
 
 -- ---- an entry's bytes
+
+-- a number where its bytes stand
+pub field-stands : (file : List ℕ) (at n v : ℕ) → Stands file at (bytes n v) → v < 256 ^ n → field at n file ≡ v
+unfolding field
+field-stands file at n v s h = ap number (stands-take file at n (bytes n v) (length-bytes n v) s) ∙ number-bytes n v h
 
 pub length-entry : (kind disk offset len : ℕ) → length (entry kind disk offset len) ≡ 10
 unfolding entry

@@ -7,6 +7,7 @@ pub mod Standing
 pub mod Entries
 pub mod Received
 pub mod Parts
+pub mod Laid
 pub mod Quantifiers
 pub mod Words
 pub mod Rows
