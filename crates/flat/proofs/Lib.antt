@@ -8,6 +8,9 @@ pub mod Entries
 pub mod Received
 pub mod Parts
 pub mod Laid
+pub mod Bodies
+pub mod Written
+pub mod Recorded
 pub mod Quantifiers
 pub mod Words
 pub mod Rows

@@ -42,7 +42,7 @@ after-card file answer C =
     answer C
 
 -- what the reader answers
-abbrev read : List ℕ → Code → Report
+abbrev pub read : List ℕ → Code → Report
 read file C = accepted (C .k ∷ C .m ∷ lengthIn file ∷ lostIn C file ∷ [])
 
 -- a call is accepted only where the record passes them
@@ -83,6 +83,14 @@ pub with-received : (file : List ℕ) (k m L S : ℕ) → recordReport file ≡ 
     → withRecord file answer ≡ answer (codeOf (bodyIn file 0))
 unfolding recordReport
 with-received file k m L S e answer = with-passed file answer (passed-all file (k ∷ m ∷ L ∷ S ∷ []) (read file) e .0)
+
+-- a record whose report has the number 0 is accepted with what stands in it
+pub read-accepted : (file : List ℕ) → recordReport file .number ≡ 0 → recordReport file ≡ read file (codeOf (bodyIn file 0))
+unfolding recordReport
+read-accepted file e =
+    let vs = recordReport file .values in
+    let is : recordReport file ≡ accepted vs = ap (λ (n : ℕ). record { number = n; values = vs }) e in
+    is ∙ sym (passed-all file vs (read file) is .1)
 
 -- ---- what the reader refuses, each call that takes a record refuses
 
