@@ -21,6 +21,12 @@ use Rattle.flat.proofs.Reports.{unless-accepted, unless-number, unless-
 use Rattle.flat.proofs.Entries.{length-in}
 use Rattle.flat.proofs.Received.{Received, received, with-received, with-refused-record, read-accepted, body-there}
 
+-- a refused record has no bodies
+pub body-refused : (file : List ℕ) (n : ℕ) (vs : List ℕ) → recordReport file ≡ refused (suc n) vs → (d : ℕ) → bodyReport file d ≡ refused (suc n) vs
+unfolding bodyReport
+body-refused file n vs e d =
+    with-refused-record file n vs (λ C. if not (ltb d (disks C)) then refused 9 [] else if has (lostIn C file) d then refused 16 [] else accepted []) e
+
 module _ (file : List ℕ) (k m L S : ℕ) (e : recordReport file ≡ accepted (k ∷ m ∷ L ∷ S ∷ [])) where
   r : Received file k m L S
   r = received file k m L S e

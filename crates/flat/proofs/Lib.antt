@@ -10,6 +10,7 @@ pub mod Parts
 pub mod Laid
 pub mod Bodies
 pub mod Written
+pub mod Rewritten
 pub mod Recorded
 pub mod Quantifiers
 pub mod Words

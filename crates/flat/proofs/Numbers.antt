@@ -1,6 +1,6 @@
 -- Numbers in bytes, lists compared, and how many numbers below a bound have a property.
 -- Assumes nothing.
-use mathlib.Core.Path.{_≡_, refl, sym, ap, ap₂, _∙_}
+use mathlib.Core.Path.{_≡_, refl, sym, ap, ap₂, _∙_, subst}
 use mathlib.Core.Bool.{Bool, true, false}
 use mathlib.Core.List.{List, [], _∷_, _++_, append-assoc}
 use mathlib.Core.Logic.{_⊎_, inl, inr}
@@ -8,10 +8,10 @@ use Prim.Native.Nat.{ℕ, zero, suc, _+_, _*_, _/_, _%_, _^_, _≤_, _<_}
 use native.Mathlib.Nat.{not-suc-le-zero, pow-suc}
 use native.Mathlib.Omega.{arith}
 use lib.Dec.{T, eqb, eqb-refl}
-use lib.ListN.{length, take, drop}
-use lib.Seq.{take-at, drop-at}
+use lib.ListN.{length, getD, take, drop, length-take, List·getD-eq-default}
+use lib.Seq.{take-at, drop-at, getD-take, getD-drop}
 use Rattle.gf2.specs.If.{if_then_else_}
-use Rattle.gf2.proofs.Tests.{and-in, and-out, eqb-out, below-suc, if-true}
+use Rattle.gf2.proofs.Tests.{and-in, and-out, eqb-out, below-suc, below-or, if-true}
 use Rattle.flat.specs.Lists.{Bytes, count, same, bytes, number, field}
 
 -- ---- numbers in bytes
@@ -41,6 +41,15 @@ bytes-number (suc n) (x ∷ xs) b e =
     let low : (x + 256 * number xs) % 256 ≡ x = omega arith in
     let rest : (x + 256 * number xs) / 256 ≡ number xs = omega arith in
     ap₂ _∷_ low (ap (bytes n) rest ∙ bytes-number n xs (λ i. b (suc i)) (omega arith))
+
+-- a part of a list of bytes
+pub bytes-part : (at n : ℕ) (xs : List ℕ) → Bytes xs → Bytes (take n (drop at xs))
+bytes-part at n xs b i = go (below-or i n)
+  where
+    go : (i < n) ⊎ (n ≤ i) → getD (take n (drop at xs)) i 0 < 256
+    go (inl l) = subst (λ (x : ℕ). x < 256) (sym (getD-take n (drop at xs) i 0 l ∙ getD-drop at xs i 0)) (b (at + i))
+    go (inr l) =
+        subst (λ (x : ℕ). x < 256) (sym (List·getD-eq-default (take n (drop at xs)) 0 (omega (arith, length-take n (drop at xs))))) (omega arith)
 
 -- a number read from the place at which its bytes stand
 pub field-bytes : (at n v : ℕ) (before after : List ℕ) → length before ≡ at → v < 256 ^ n → field at n (before ++ bytes n v ++ after) ≡ v

@@ -26,18 +26,27 @@ use Rattle.flat.proofs.Standing.{stands-take}
 use Rattle.flat.proofs.Parts.{Laid, length-strip, length-record, laid-is, record-laid}
 use Rattle.flat.proofs.Received.{Received, received, with-refused-record, read-accepted}
 use Rattle.flat.proofs.Laid.{code-is, laid-read}
-use Rattle.flat.proofs.Bodies.{body-accepted, body-lost, body-part, length-body, body-filled}
+use Rattle.flat.proofs.Written.{read-back}
+use Rattle.flat.proofs.Rewritten.{write-back}
+use Rattle.flat.proofs.Bodies.{body-refused, body-accepted, body-lost, body-part, length-body, body-filled}
+
+pub records-read-back : RecordReadsBack
+records-read-back = read-back
 
 pub records-write-back : RecordWritesBack
-records-write-back file output k m L S b e n = ?
-
--- ---- the empty body
+records-write-back = write-back
 
 pub body-empty-refused : BodyEmptyRefused
+unfolding bodyPart unlessRefused
 body-empty-refused file d = (λ n z. filled n z (recordReport file .number) refl, λ f. empty f (bodyReport file d .number) refl)
   where
     filled : bodyPart file d ≡ [] → bodyReport file d .number ≡ 0 → (i : ℕ) → recordReport file .number ≡ i → ⊥
-    filled n z i q = ?
+    filled n z zero q = body-filled file _ _ _ _ (read-accepted file q) d z n
+    filled n z (suc i) q =
+        let is : recordReport file ≡ refused (suc i) (recordReport file .values) = ap (λ (x : ℕ). refused x (recordReport file .values)) q in
+        let w : suc i ≡ 0 = sym (ap (λ (r : Report). r .number) (body-refused file i (recordReport file .values) is d)) ∙ z in
+        omega arith
 
-    empty : bodyReport file d .number ≢ 0 → (i : ℕ) → bodyReport file d .number ≡ i → bodyPart file d ≡ []
-    empty f i q = ?
+    empty : bodyReport file d .number ≢ 0 → (i : ℕ) → bodyReport file d .number ≡ i → (if eqb i 0 then bodyIn file (suc d) else []) ≡ []
+    empty f zero q = absurd (f q)
+    empty f (suc i) q = rw eqb·suc-zero

@@ -60,12 +60,20 @@ recordable card L S n p len e =
       record-size = sym (ap (λ (x : Report). getD (x .values) 0 0) (d .1));
     }
 
+pub record-accepted : (card : List ℕ) (L S n p : ℕ) → cardReport card ≡ accepted (codeOf card .k ∷ codeOf card .m ∷ []) → lengthOk L ≡ true
+    → setOk (codeOf card) S ≡ true → n ≡ disks (codeOf card) * L → recordLength (codeOf card) L S ≤ p
+    → recordWriteReport card L S n p ≡ accepted (recordLength (codeOf card) L S ∷ [])
+unfolding recordWriteReport
+record-accepted card L S n p c l s e h =
+    with-accepted card (codeOf card .k ∷ codeOf card .m ∷ []) (answer L S n p) c
+    ∙ simp (l, s, eq-eqb n (disks (codeOf card) * L) e, le-ltb p (recordLength (codeOf card) L S) h)
+
 -- the code of an accepted card
 sound-code : (card : List ℕ) → cardReport card ≡ accepted (codeOf card .k ∷ codeOf card .m ∷ []) → Sound (codeOf card)
 unfolding codeOf
 sound-code card e = accepted-card card (codeOf card .k) (codeOf card .m) e .sound
 
-columns-many : (card : List ℕ) → length (codeOf card .columns) ≡ codeOf card .m
+pub columns-many : (card : List ℕ) → length (codeOf card .columns) ≡ codeOf card .m
 unfolding codeOf
 columns-many card = length-columns (codeOf card .m) (drop 2 card)
 
@@ -120,9 +128,9 @@ module _ (card stripe : List ℕ) (L S : ℕ) (card-ok : cardReport card ≡ acc
     (λ d l t. body-lost file (C .k) (C .m) L S read d l t),
   )
 
-pub records-read-back : RecordReadsBack
+pub read-back : RecordReadsBack
 unfolding recordWriteOutput
-records-read-back card stripe output L S len e =
+read-back card stripe output L S len e =
     let C = codeOf card in
     let w = recordable card L S (length stripe) (length output) len e in
     let long : length (recordBytes C L S stripe) ≡ len = length-record C L S stripe (w .stripe-size) (columns-many card) ∙ sym (w .record-size) in
