@@ -1,25 +1,24 @@
 -- The bodies of an accepted record: what the body call and the call beside it answer for each disk.
 -- Assumes nothing.
-use mathlib.Core.Path.{_≡_, refl, sym, ap, ap₂, _∙_, subst}
-use mathlib.Core.Bool.{Bool, true, false, not}
-use mathlib.Core.Logic.{_⊎_, inl, inr, _≢_}
+use mathlib.Core.Path.{_≡_, sym, ap, ap₂, _∙_}
+use mathlib.Core.Bool.{not}
+use mathlib.Core.Logic.{_⊎_, inl, inr}
 use mathlib.Core.List.{List, [], _∷_}
-use Prim.Native.Nat.{ℕ, zero, suc, _+_, _≤_, _<_}
+use Prim.Native.Nat.{ℕ, suc, _+_, _≤_, _<_}
 use native.Mathlib.Omega.{arith}
 use borrow.Author.Tests.{lt-ltb, le-ltb}
-use lib.Dec.{T, eqb, ltb, eqb·suc-zero}
+use lib.Dec.{T, ltb}
 use lib.ListN.{length, take, drop, length-drop}
 use lib.Seq.{length-take-le}
 use Rattle.gf2.specs.If.{if_then_else_}
 use Rattle.gf2.specs.Sets.{has}
 use Rattle.gf2.proofs.Tests.{dec, below-or, if-true, if-false}
-use Rattle.flat.specs.Cards.{Code, disks, codeOf}
-use Rattle.flat.specs.Records.{bodyAt, lengthIn, offsetIn, bodyLengthIn, bodyIn, lostIn}
-use Rattle.flat.specs.Faults.{Report, accepted, refused, unlessRefused, recordReport, bodyReport, bodyPart}
-use Rattle.flat.specs.Recorded.{BodyEmptyRefused}
-use Rattle.flat.proofs.Reports.{unless-accepted, unless-number, unless-refused}
+use Rattle.flat.specs.Cards.{disks, codeOf}
+use Rattle.flat.specs.Records.{bodyAt, bodyIn, lostIn}
+use Rattle.flat.specs.Faults.{Report, accepted, refused, recordReport, bodyReport, bodyPart}
+use Rattle.flat.proofs.Reports.{unless-accepted}
 use Rattle.flat.proofs.Entries.{length-in}
-use Rattle.flat.proofs.Received.{Received, received, with-received, with-refused-record, read-accepted, body-there}
+use Rattle.flat.proofs.Received.{Received, received, with-received, with-refused-record, body-there}
 
 -- a refused record has no bodies
 pub body-refused : (file : List ℕ) (n : ℕ) (vs : List ℕ) → recordReport file ≡ refused (suc n) vs → (d : ℕ) → bodyReport file d ≡ refused (suc n) vs

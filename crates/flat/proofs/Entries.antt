@@ -2,13 +2,13 @@
 -- Assumes nothing.
 use mathlib.Core.Path.{_≡_, refl, sym, ap, _∙_}
 use mathlib.Core.Bool.{Bool, true, false, not}
-use mathlib.Core.List.{List, [], _∷_, _++_, append-nil}
+use mathlib.Core.List.{List, [], _∷_}
 use Prim.Native.Nat.{ℕ, suc, _+_, _*_, _^_, _≤_, _<_}
 use native.Mathlib.Nat.{mul-le-mul-left, mul-le-mul-right}
 use native.Mathlib.Omega.{arith}
 use lib.Dec.{T, leb}
 use lib.ListN.{length, getD, take, drop, length-append, length-drop}
-use lib.Seq.{take-all, length-take-le}
+use lib.Seq.{length-take-le}
 use Rattle.gf2.specs.If.{if_then_else_}
 use Rattle.gf2.specs.Sets.{has}
 use Rattle.gf2.proofs.Tests.{true-T, and-out, not-in, leb-out}
@@ -16,8 +16,8 @@ use Rattle.flat.specs.Lists.{Bytes, count, bytes, number, field}
 use Rattle.flat.specs.Cards.{Code, disks, cardLength}
 use Rattle.flat.specs.Strips.{lengthOk}
 use Rattle.flat.specs.Records.{entryCount, bodiesAt, entry, bodyAt, recordLength, stripEntry}
-use Rattle.flat.proofs.Numbers.{length-bytes, number-bytes, bytes-number, bytes-part, field-bytes, count-le, count-below}
-use Rattle.flat.proofs.Standing.{Stands, stands-whole, stands-take, take-stands, stands-join}
+use Rattle.flat.proofs.Numbers.{length-bytes, number-bytes, bytes-number, bytes-part, count-le, count-below}
+use Rattle.flat.proofs.Standing.{Stands, stands-self, stands-whole, stands-take, take-stands, stands-join, stands-left, stands-right}
 
 -- a strip's length that passed its test
 pub length-in : (L : ℕ) → lengthOk L ≡ true → (1 ≤ L) × (L ≤ 65536)
@@ -54,14 +54,18 @@ stands-field file at n v b h e =
 -- the offset and the length that it names
 pub entry-offset : (kind disk offset len : ℕ) → offset < 256 ^ 4 → field 2 4 (entry kind disk offset len) ≡ offset
 unfolding entry
-entry-offset kind disk offset len h = field-bytes 2 4 offset (kind ∷ disk ∷ []) (bytes 4 len) refl h
+entry-offset kind disk offset len h =
+    let whole = entry kind disk offset len in
+    field-stands whole 2 4 offset
+    (stands-right whole 0 (kind ∷ disk ∷ []) (bytes 4 offset) 2 refl
+    (stands-left whole 0 (kind ∷ disk ∷ bytes 4 offset) (bytes 4 len) (stands-self whole))) h
 
 pub entry-length : (kind disk offset len : ℕ) → len < 256 ^ 4 → field 6 4 (entry kind disk offset len) ≡ len
 unfolding entry
 entry-length kind disk offset len h =
-    let before = kind ∷ disk ∷ bytes 4 offset in
-    ap (field 6 4) (sym (append-nil (before ++ bytes 4 len)))
-    ∙ field-bytes 6 4 len before [] (let e : suc (suc (length (bytes 4 offset))) ≡ 6 = omega (arith, length-bytes 4 offset) in e) h
+    let whole = entry kind disk offset len in
+    field-stands whole 6 4 len
+    (stands-right whole 0 (kind ∷ disk ∷ bytes 4 offset) (bytes 4 len) 6 (omega (arith, length-bytes 4 offset)) (stands-self whole)) h
 
 -- ten bytes are the entry of what they name
 pub entry-back : (xs : List ℕ) → Bytes xs → length xs ≡ 10 → xs ≡ entry (getD xs 0 0) (getD xs 1 0) (field 2 4 xs) (field 6 4 xs)

@@ -1,8 +1,8 @@
 -- A file that is laid out as a record is accepted, and the reader answers what it was laid out from.
 -- Assumes nothing.
 use mathlib.Core.Path.{_≡_, refl, sym, ap, ap₂, _∙_, subst}
-use mathlib.Core.Bool.{Bool, true, false, not, _&&_}
-use mathlib.Core.List.{List, [], _∷_, _++_}
+use mathlib.Core.Bool.{Bool, true, false, _&&_}
+use mathlib.Core.List.{List, [], _∷_}
 use Prim.Native.Nat.{ℕ, suc, _+_, _*_, _^_, _≤_, _<_}
 use native.Mathlib.Omega.{arith}
 use borrow.Author.Tests.{eq-eqb, le-leb, ltb-true}
@@ -10,8 +10,8 @@ use lib.Dec.{T, eqb, leb}
 use lib.ListN.{length, getD, take, drop}
 use Rattle.gf2.specs.If.{if_then_else_}
 use Rattle.gf2.specs.Sets.{has}
-use Rattle.gf2.proofs.Tests.{T-true, and-in, eqb-in, leb-in}
-use Rattle.flat.specs.Lists.{every, setOf, same, bytes, field}
+use Rattle.gf2.proofs.Tests.{T-true}
+use Rattle.flat.specs.Lists.{every, same, field}
 use Rattle.flat.specs.Cards.{Code, disks, setOk, cardLength, cardBytes, codeOf}
 use Rattle.flat.specs.Strips.{lengthOk}
 use Rattle.flat.specs.Records.{mark, entryCount, bodiesAt, entry, bodyAt, recordLength, stripEntry, lengthIn, entryCountIn, entryIn, offsetIn, bodyLengthIn, bodyIn, markOk, entriesOk, cardEntryOk, lostIn, stripEntriesOk}
@@ -19,7 +19,7 @@ use Rattle.flat.specs.Faults.{Report, accepted, cardReport, recordReport
 use Rattle.flat.proofs.Cards.{Sound, count-in, report-accepted}
 use Rattle.flat.proofs.RoundTrip.{length-card, code-back}
 use Rattle.flat.proofs.Quantifiers.{every-in, set-is}
-use Rattle.flat.proofs.Numbers.{length-bytes, same-in}
+use Rattle.flat.proofs.Numbers.{same-in}
 use Rattle.flat.proofs.Standing.{stands-take}
 use Rattle.flat.proofs.Entries.{length-in, length-entry, length-strip-entry, field-stands, entry-offset, entry-length}
 use Rattle.flat.proofs.Received.{Passed, with-passed}

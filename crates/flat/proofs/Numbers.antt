@@ -2,17 +2,17 @@
 -- Assumes nothing.
 use mathlib.Core.Path.{_≡_, refl, sym, ap, ap₂, _∙_, subst}
 use mathlib.Core.Bool.{Bool, true, false}
-use mathlib.Core.List.{List, [], _∷_, _++_, append-assoc}
+use mathlib.Core.List.{List, [], _∷_}
 use mathlib.Core.Logic.{_⊎_, inl, inr}
 use Prim.Native.Nat.{ℕ, zero, suc, _+_, _*_, _/_, _%_, _^_, _≤_, _<_}
 use native.Mathlib.Nat.{not-suc-le-zero, pow-suc}
 use native.Mathlib.Omega.{arith}
 use lib.Dec.{T, eqb, eqb-refl}
 use lib.ListN.{length, getD, take, drop, length-take, List·getD-eq-default}
-use lib.Seq.{take-at, drop-at, getD-take, getD-drop}
+use lib.Seq.{getD-take, getD-drop}
 use Rattle.gf2.specs.If.{if_then_else_}
 use Rattle.gf2.proofs.Tests.{and-in, and-out, eqb-out, below-suc, below-or, if-true}
-use Rattle.flat.specs.Lists.{Bytes, count, same, bytes, number, field}
+use Rattle.flat.specs.Lists.{Bytes, count, same, bytes, number}
 
 -- ---- numbers in bytes
 
@@ -50,13 +50,6 @@ bytes-part at n xs b i = go (below-or i n)
     go (inl l) = subst (λ (x : ℕ). x < 256) (sym (getD-take n (drop at xs) i 0 l ∙ getD-drop at xs i 0)) (b (at + i))
     go (inr l) =
         subst (λ (x : ℕ). x < 256) (sym (List·getD-eq-default (take n (drop at xs)) 0 (omega (arith, length-take n (drop at xs))))) (omega arith)
-
--- a number read from the place at which its bytes stand
-pub field-bytes : (at n v : ℕ) (before after : List ℕ) → length before ≡ at → v < 256 ^ n → field at n (before ++ bytes n v ++ after) ≡ v
-unfolding field
-field-bytes at n v before after e h =
-    ap number (ap (take n) (ap (drop at) (append-assoc before (bytes n v) after) ∙ drop-at before (bytes n v ++ after) at e) ∙ take-at (bytes n v) after n (length-bytes n v))
-    ∙ number-bytes n v h
 
 -- ---- lists compared
 

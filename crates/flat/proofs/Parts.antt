@@ -2,7 +2,7 @@
 -- Assumes nothing.
 use mathlib.Core.Path.{_≡_, refl, sym, ap, _∙_, subst}
 use mathlib.Core.Bool.{Bool, true, false, not}
-use mathlib.Core.List.{List, [], _∷_, _++_}
+use mathlib.Core.List.{List, [], _++_}
 use Prim.Native.Nat.{ℕ, suc, _+_, _*_, _≤_, _<_}
 use native.Mathlib.Nat.{mul-le-mul-right}
 use native.Mathlib.Omega.{arith}
@@ -58,12 +58,16 @@ module _ (C : Code) (L S : ℕ) (stripe : List ℕ) where
     -- the parts before the bodies, one after the other, and how long they are
     abbrev to-length : List ℕ
     to-length = mark ++ bytes 4 L
+
     abbrev to-many : List ℕ
     to-many = to-length ++ bytes 2 (entryCount C)
+
     abbrev to-card-entry : List ℕ
     to-card-entry = to-many ++ entry 0 0 (bodiesAt (entryCount C)) (cardLength (C .m))
+
     abbrev to-entries : List ℕ
     to-entries = to-card-entry ++ each (stripEntry C L S) (range 0 (disks C))
+
     abbrev to-card : List ℕ
     to-card = to-entries ++ cardBytes C
 

@@ -1,34 +1,20 @@
 -- The theorems about the record file (demand 2): the reader reads what the writer wrote, an accepted file is what the writer writes
 -- from what the reader answers, and an empty body is a refused one.
 -- Assumes nothing.
-use mathlib.Core.Path.{_≡_, refl, sym, ap, ap₂, _∙_, subst}
-use mathlib.Core.Bool.{Bool, true, false, not}
+use mathlib.Core.Path.{_≡_, refl, sym, ap, _∙_}
 use mathlib.Core.Logic.{_≢_}
-use mathlib.Core.List.{List, [], _∷_, _++_, append-nil}
-use Prim.Native.Nat.{ℕ, zero, suc, _+_, _*_, _^_, _≤_, _<_}
+use mathlib.Core.List.{[]}
+use Prim.Native.Nat.{ℕ, zero, suc}
 use native.Mathlib.Omega.{arith}
-use borrow.Author.Tests.{eqb-true, not-false, ltb-false, eq-eqb, lt-ltb, le-ltb}
-use lib.Dec.{T, eqb, ltb, eqb·suc-zero}
-use lib.ListN.{length, getD, take, drop, replicate, length-replicate}
-use lib.Seq.{take-at}
+use lib.Dec.{eqb, eqb·suc-zero}
 use Rattle.gf2.specs.If.{if_then_else_}
-use Rattle.gf2.specs.Sets.{has}
-use Rattle.gf2.proofs.Tests.{if-false}
-use Rattle.flat.specs.Lists.{Bytes, padded, range, each}
-use Rattle.flat.specs.Cards.{Code, disks, setOk, codeOf, columnsIn}
-use Rattle.flat.specs.Strips.{lengthOk}
-use Rattle.flat.specs.Records.{bodyAt, recordLength, stripBody, recordBytes, bodyIn}
-use Rattle.flat.specs.Faults.{Report, accepted, refused, unlessRefused, cardReport, cardColumns, recordWriteReport, recordWriteOutput, recordReport, recordColumns, bodyReport, bodyPart}
-use Rattle.flat.specs.Recorded.{RecordReadsBack, stripeIn, RecordWritesBack, BodyEmptyRefused}
-use Rattle.flat.proofs.Reports.{passed, unless-accepted, with-accepted, with-out}
-use Rattle.flat.proofs.Cards.{Sound, accepted-card, card-accepted, length-columns}
-use Rattle.flat.proofs.Standing.{stands-take}
-use Rattle.flat.proofs.Parts.{Laid, length-strip, length-record, laid-is, record-laid}
-use Rattle.flat.proofs.Received.{Received, received, with-refused-record, read-accepted}
-use Rattle.flat.proofs.Laid.{code-is, laid-read}
+use Rattle.flat.specs.Records.{bodyIn}
+use Rattle.flat.specs.Faults.{Report, accepted, refused, unlessRefused, recordReport, bodyReport, bodyPart}
+use Rattle.flat.specs.Recorded.{RecordReadsBack, RecordWritesBack, BodyEmptyRefused}
+use Rattle.flat.proofs.Received.{read-accepted}
 use Rattle.flat.proofs.Written.{read-back}
 use Rattle.flat.proofs.Rewritten.{write-back}
-use Rattle.flat.proofs.Bodies.{body-refused, body-accepted, body-lost, body-part, length-body, body-filled}
+use Rattle.flat.proofs.Bodies.{body-refused, body-filled}
 
 pub records-read-back : RecordReadsBack
 records-read-back = read-back

@@ -1,25 +1,24 @@
 -- An accepted record is what the record writer writes from the record's own card, length, lost set and bodies.
 -- Assumes nothing.
 use mathlib.Core.Path.{_≡_, refl, sym, ap, ap₂, _∙_, subst}
-use mathlib.Core.Bool.{Bool, true, false, not}
+use mathlib.Core.Bool.{true, not}
 use mathlib.Core.Logic.{_⊎_, inl, inr}
 use mathlib.Core.List.{List, [], _∷_, _++_, append-nil}
-use Prim.Native.Nat.{ℕ, zero, suc, _+_, _*_, _^_, _≤_, _<_}
+use Prim.Native.Nat.{ℕ, suc, _+_, _*_, _^_, _≤_, _<_}
 use native.Mathlib.Omega.{arith}
-use borrow.Author.Tests.{eq-eqb, lt-ltb, le-ltb}
-use lib.Dec.{T, eqb, ltb}
-use lib.ListN.{length, getD, take, drop, replicate, length-replicate, length-drop, drop-of-length-le}
+use borrow.Author.Tests.{lt-ltb}
+use lib.Dec.{T}
+use lib.ListN.{length, take, drop, replicate, length-replicate, length-drop, drop-of-length-le}
 use lib.Seq.{length-take-le}
 use Rattle.gf2.specs.If.{if_then_else_}
 use Rattle.gf2.specs.Sets.{has}
 use Rattle.gf2.proofs.Tests.{dec, if-true, if-false}
 use Rattle.flat.specs.Lists.{Bytes, range, each, bytes}
 use Rattle.flat.specs.Cards.{Code, disks, setOk, cardLength, cardBytes, codeOf}
-use Rattle.flat.specs.Strips.{lengthOk}
-use Rattle.flat.specs.Records.{mark, entryCount, bodiesAt, entry, bodyAt, recordLength, stripEntry, stripBody, recordBytes, lengthIn, entryCountIn, entryIn, offsetIn, bodyLengthIn, bodyIn}
-use Rattle.flat.specs.Faults.{Report, accepted, refused, unlessRefused, recordWriteReport, recordWriteOutput, recordReport, bodyPart}
+use Rattle.flat.specs.Records.{entryCount, bodiesAt, entry, bodyAt, recordLength, stripEntry, stripBody, recordBytes, lengthIn, entryCountIn, entryIn, offsetIn, bodyLengthIn, bodyIn}
+use Rattle.flat.specs.Faults.{accepted, recordWriteReport, recordWriteOutput, recordReport, bodyPart}
 use Rattle.flat.specs.Recorded.{stripeIn, RecordWritesBack}
-use Rattle.flat.proofs.Reports.{unless-accepted, with-accepted}
+use Rattle.flat.proofs.Reports.{unless-accepted}
 use Rattle.flat.proofs.Cards.{accepted-card}
 use Rattle.flat.proofs.RoundTrip.{card-bytes-back}
 use Rattle.flat.proofs.Numbers.{bytes-part}

@@ -2,12 +2,12 @@
 -- Assumes nothing.
 use mathlib.Core.Path.{_≡_, refl, sym, ap, ap₂, _∙_, subst}
 use mathlib.Core.Logic.{_⊎_, inl, inr}
-use mathlib.Core.List.{List, [], _++_, append-assoc, append-nil}
-use Prim.Native.Nat.{ℕ, zero, suc, _+_, _*_, _≤_, _<_}
+use mathlib.Core.List.{List, _++_, append-assoc, append-nil}
+use Prim.Native.Nat.{ℕ, zero, suc, _+_, _<_}
 use native.Mathlib.Nat.{not-suc-le-zero, add-zero}
 use native.Mathlib.Omega.{arith}
-use lib.ListN.{length, take, drop, length-append, length-take, length-drop}
-use lib.Seq.{take-at, drop-at, take-all, take-length, take-take, take-add, drop-drop, drop-append-seam}
+use lib.ListN.{length, take, drop, length-append}
+use lib.Seq.{take-at, take-all, take-length, take-take, take-add, drop-drop, drop-append-seam}
 use Rattle.gf2.proofs.Tests.{below-suc}
 use Rattle.flat.specs.Lists.{range, each}
 

@@ -1,34 +1,31 @@
 -- The record reader reads what the record writer wrote.
 -- Assumes nothing.
-use mathlib.Core.Path.{_≡_, refl, sym, ap, ap₂, _∙_, subst}
-use mathlib.Core.Bool.{Bool, true, false, not}
-use mathlib.Core.Logic.{_≢_}
-use mathlib.Core.List.{List, [], _∷_, _++_, append-nil}
-use Prim.Native.Nat.{ℕ, zero, suc, _+_, _*_, _^_, _≤_, _<_}
-use native.Mathlib.Omega.{arith}
-use borrow.Author.Tests.{eqb-true, not-false, ltb-false, eq-eqb, lt-ltb, le-ltb}
-use lib.Dec.{T, eqb, ltb, eqb·suc-zero}
-use lib.ListN.{length, getD, take, drop, replicate, length-replicate}
+use mathlib.Core.Path.{_≡_, sym, ap, _∙_, subst}
+use mathlib.Core.Bool.{true, not}
+use mathlib.Core.List.{List, [], _∷_, _++_}
+use Prim.Native.Nat.{ℕ, _*_, _≤_, _<_}
+use borrow.Author.Tests.{eqb-true, not-false, eq-eqb, le-ltb}
+use lib.Dec.{T, eqb, ltb}
+use lib.ListN.{length, getD, take, drop}
 use lib.Seq.{take-at}
 use Rattle.gf2.specs.If.{if_then_else_}
 use Rattle.gf2.specs.Sets.{has}
 use Rattle.gf2.proofs.Tests.{if-false}
-use Rattle.flat.specs.Lists.{Bytes, padded, range, each}
-use Rattle.flat.specs.Cards.{Code, disks, setOk, codeOf, columnsIn}
+use Rattle.flat.specs.Lists.{padded}
+use Rattle.flat.specs.Cards.{Code, disks, setOk, codeOf}
 use Rattle.flat.specs.Strips.{lengthOk}
 use Rattle.flat.specs.Records.{bodyAt, recordLength, stripBody, recordBytes, bodyIn}
-use Rattle.flat.specs.Faults.{Report, accepted, refused, unlessRefused, cardReport, cardColumns, recordWriteReport, recordWriteOutput, recordReport, recordColumns, bodyReport, bodyPart}
-use Rattle.flat.specs.Recorded.{RecordReadsBack, stripeIn, RecordWritesBack, BodyEmptyRefused}
+use Rattle.flat.specs.Faults.{Report, accepted, refused, cardReport, cardColumns, recordWriteReport, recordWriteOutput, recordReport, recordColumns, bodyReport, bodyPart}
+use Rattle.flat.specs.Recorded.{RecordReadsBack}
 use Rattle.flat.proofs.Reports.{passed, unless-accepted, with-accepted, with-out}
 use Rattle.flat.proofs.Cards.{Sound, accepted-card, card-accepted, length-columns}
 use Rattle.flat.proofs.Standing.{Stands, stands-take}
-use Rattle.flat.proofs.Parts.{Laid, length-strip, length-record, laid-is, record-laid}
-use Rattle.flat.proofs.Received.{Received, received, with-refused-record, read-accepted}
+use Rattle.flat.proofs.Parts.{Laid, length-strip, length-record, record-laid}
 use Rattle.flat.proofs.Laid.{code-is, laid-read}
-use Rattle.flat.proofs.Bodies.{body-accepted, body-lost, body-part, length-body, body-filled}
+use Rattle.flat.proofs.Bodies.{body-accepted, body-lost, body-part}
 
 -- what is known of a call that the record writer accepts
-pub record Recordable (card : List ℕ) (L S n p len : ℕ) : Type 0 where
+pub record Recordable (card : List ℕ) (L S n len : ℕ) : Type 0 where
   card-ok : cardReport card ≡ accepted (codeOf card .k ∷ codeOf card .m ∷ [])
   length-ok : lengthOk L ≡ true
   set-ok : setOk (codeOf card) S ≡ true
@@ -43,7 +40,7 @@ answer L S n p C =
     if ltb p (recordLength C L S) then refused 16 [] else
     accepted (recordLength C L S ∷ [])
 
-recordable : (card : List ℕ) (L S n p len : ℕ) → recordWriteReport card L S n p ≡ accepted (len ∷ []) → Recordable card L S n p len
+recordable : (card : List ℕ) (L S n p len : ℕ) → recordWriteReport card L S n p ≡ accepted (len ∷ []) → Recordable card L S n len
 unfolding recordWriteReport
 recordable card L S n p len e =
     let C = codeOf card in
