@@ -96,7 +96,7 @@ module _ (C : Code) (L S : ℕ) (stripe file : List ℕ) (s : Sound C) (columns 
   lost : lostIn C file ≡ S
   unfolding lostIn setOk
   lost =
-      set-is (disks C) S (λ i. eqb (getD (entryIn file (suc i)) 0 0) 2) (ltb-true S (2 ^ disks C) set)
+      set-is (disks C) S _ (ltb-true S (2 ^ disks C) set)
       (λ i l. ap (λ (e : List ℕ). eqb (getD e 0 0) 2) (strip-entry i l) ∙ kind i)
 
   -- ---- the tests

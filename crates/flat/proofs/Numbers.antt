@@ -11,7 +11,7 @@ use lib.Dec.{T, eqb, eqb-refl}
 use lib.ListN.{length, getD, take, drop, length-take, List·getD-eq-default}
 use lib.Seq.{getD-take, getD-drop}
 use Rattle.gf2.specs.If.{if_then_else_}
-use Rattle.gf2.proofs.Tests.{and-in, and-out, eqb-out, below-suc, below-or, if-true}
+use Rattle.gf2.proofs.Tests.{and-in, and-out, eqb-out, below-suc, below-or, if-true, if-false}
 use Rattle.flat.specs.Lists.{Bytes, count, same, bytes, number}
 
 -- ---- numbers in bytes
@@ -77,13 +77,26 @@ count-le (suc n) p = go (p n) (count-le n p)
     go true h = omega arith
     go false h = omega arith
 
--- one that has the property is one more
-pub count-below : (n d : ℕ) (p : ℕ → Bool) → d < n → T (p d) → suc (count d p) ≤ count n p
+-- the next number is one more where it has the property, and no more where not
+pub count-more : (i : ℕ) (p : ℕ → Bool) → T (p i) → count (suc i) p ≡ suc (count i p)
 unfolding count
+count-more i p t =
+    let w : _≡_ {A = ℕ} (if p i then 1 else 0) 1 = if-true (p i) 1 0 t in omega arith
+
+pub count-skip : (i : ℕ) (p : ℕ → Bool) → (T (p i) → ⊥) → count (suc i) p ≡ count i p
+unfolding count
+count-skip i p f =
+    let w : _≡_ {A = ℕ} (if p i then 1 else 0) 0 = if-false (p i) 1 0 f in omega arith
+
+count-up : (n : ℕ) (p : ℕ → Bool) → count n p ≤ count (suc n) p
+unfolding count
+count-up n p = omega arith
+
+-- one below the bound that has the property is one more
+pub count-below : (n d : ℕ) (p : ℕ → Bool) → d < n → T (p d) → suc (count d p) ≤ count n p
 count-below zero d p l t = absurd (not-suc-le-zero l)
 count-below (suc n) d p l t = go (below-suc d n l) (λ h. count-below n d p h t)
   where
-    go : (d < n) ⊎ (d ≡ n) → (d < n → suc (count d p) ≤ count n p) → suc (count d p) ≤ count n p + (if p n then 1 else 0)
-    go (inl h) rest = omega (arith, rest h)
-    go (inr e) rest =
-        rw (sym e) (let w : _≡_ {A = ℕ} (if p d then 1 else 0) 1 = if-true (p d) 1 0 t in omega arith)
+    go : (d < n) ⊎ (d ≡ n) → (d < n → suc (count d p) ≤ count n p) → suc (count d p) ≤ count (suc n) p
+    go (inl h) rest = omega (arith, rest h, count-up n p)
+    go (inr e) rest = rw (sym e) (omega (arith, count-more d p t))

@@ -1,20 +1,22 @@
 -- The layout of a record: where each of its parts stands, that the parts make up the whole, and how long it is.
 -- Assumes nothing.
 use mathlib.Core.Path.{_≡_, refl, sym, ap, _∙_, subst}
-use mathlib.Core.Bool.{Bool, true, false, not}
+use mathlib.Core.Bool.{Bool, not}
+use mathlib.Core.Logic.{_⊎_, inl, inr}
 use mathlib.Core.List.{List, [], _++_}
 use Prim.Native.Nat.{ℕ, suc, _+_, _*_, _≤_, _<_}
 use native.Mathlib.Nat.{mul-le-mul-right}
 use native.Mathlib.Omega.{arith}
+use lib.Dec.{T}
 use lib.ListN.{length, take, drop, length-append, length-drop}
 use lib.Seq.{length-take-le}
-use Rattle.gf2.specs.If.{if_then_else_}
 use Rattle.gf2.specs.Sets.{has}
+use Rattle.gf2.proofs.Tests.{dec, not-in, not-out, if-true, if-false}
 use Rattle.flat.specs.Lists.{count, range, each, bytes}
 use Rattle.flat.specs.Cards.{Code, disks, cardLength, cardBytes}
 use Rattle.flat.specs.Records.{mark, entryCount, bodiesAt, entry, bodyAt, recordLength, stripEntry, stripBody, recordBytes}
 use Rattle.flat.proofs.RoundTrip.{length-card}
-use Rattle.flat.proofs.Numbers.{length-bytes}
+use Rattle.flat.proofs.Numbers.{length-bytes, count-more, count-skip}
 use Rattle.flat.proofs.Entries.{length-entry, length-strip-entry}
 use Rattle.flat.proofs.Standing.{Stands, stands-self, stands-whole, stands-join, stands-left, stands-right, length-each, each-in, each-out}
 
@@ -45,14 +47,25 @@ module _ (C : Code) (L S : ℕ) (stripe : List ℕ) where
 
   -- the bodies stand in order without gaps
   bodies-follow : length stripe ≡ disks C * L → (i : ℕ) → i < disks C → bodyAt C L S i + length (stripBody L S stripe i) ≡ bodyAt C L S (suc i)
-  unfolding bodyAt stripBody count
-  bodies-follow e i l = go (has S i) (length-strip i e l)
+  unfolding bodyAt stripBody
+  bodies-follow e i l = go (dec (has S i))
     where
-      go : (b : Bool) → length (take L (drop (i * L) stripe)) ≡ L
-          → bodiesAt (entryCount C) + cardLength (C .m) + L * count i (λ d. not (has S d)) + length (if b then [] else take L (drop (i * L) stripe))
-          ≡ bodiesAt (entryCount C) + cardLength (C .m) + L * (count i (λ d. not (has S d)) + (if not b then 1 else 0))
-      go true w = omega arith
-      go false w = let a : L * (count i (λ d. not (has S d)) + 1) ≡ L * count i (λ d. not (has S d)) + L = omega arith in omega arith
+      strip : List ℕ
+      strip = take L (drop (i * L) stripe)
+
+      there : ℕ → Bool
+      there d = not (has S d)
+
+      go : T (has S i) ⊎ (T (has S i) → ⊥) → bodyAt C L S i + length (stripBody L S stripe i) ≡ bodyAt C L S (suc i)
+      go (inl t) =
+          let empty : length (stripBody L S stripe i) ≡ 0 = ap (λ (l : List ℕ). length l) (if-true (has S i) [] strip t) in
+          let as-many : L * count (suc i) there ≡ L * count i there = ap (λ (c : ℕ). L * c) (count-skip i there (λ u. not-out (has S i) u t)) in
+          omega arith
+      go (inr f) =
+          let full : length (stripBody L S stripe i) ≡ L = ap (λ (l : List ℕ). length l) (if-false (has S i) [] strip f) ∙ length-strip i e l in
+          let more : L * count (suc i) there ≡ L * suc (count i there) = ap (λ (c : ℕ). L * c) (count-more i there (not-in (has S i) f)) in
+          let e : L * suc (count i there) ≡ L * count i there + L = omega arith in
+          omega arith
 
   module _ (sized : length stripe ≡ disks C * L) (columns : length (C .columns) ≡ C .m) where
     -- the parts before the bodies, one after the other, and how long they are
