@@ -17,7 +17,7 @@ use Rattle.flat.specs.Lists.{Bytes, range, each, bytes}
 use Rattle.flat.specs.Cards.{Code, disks, setOk, cardLength, cardBytes, codeOf}
 use Rattle.flat.specs.Records.{entryCount, bodiesAt, entry, bodyAt, recordLength, stripEntry, stripBody, recordBytes, lengthIn, entryCountIn, entryIn, offsetIn, bodyLengthIn, bodyIn}
 use Rattle.flat.specs.Faults.{accepted, recordWriteReport, recordWriteOutput, recordReport, bodyPart}
-use Rattle.flat.specs.Recorded.{stripeIn, RecordWritesBack}
+use Rattle.flat.specs.Recorded.{stripeIn}
 use Rattle.flat.proofs.Reports.{unless-accepted}
 use Rattle.flat.proofs.Cards.{accepted-card}
 use Rattle.flat.proofs.RoundTrip.{card-bytes-back}
@@ -160,14 +160,12 @@ module _ (file : List ℕ) (k m L S : ℕ) (b : Bytes file) (e : recordReport fi
       × (recordWriteOutput (bodyIn file 0) L S stripe output ≡ file)
   unfolding recordWriteOutput
   rewritten output n =
+      let card-ok = r .card-ok ∙ ap₂ (λ (x y : ℕ). accepted (x ∷ y ∷ [])) (sym (r .is-k)) (sym (r .is-m)) in
       let past : length output ≤ recordLength C L S = omega (arith, r .size) in
       let ok : recordWriteReport (bodyIn file 0) L S (length stripe) (length output) ≡ accepted (recordLength C L S ∷ []) =
-      record-accepted (bodyIn file 0) L S (length stripe) (length output) (r .card-ok ∙ ap₂ (λ (x y : ℕ). accepted (x ∷ y ∷ [])) (sym (r .is-k)) (sym (r .is-m))) (r .length-ok) set-ok length-stripe (omega (arith, r .size)) in (
+      record-accepted (bodyIn file 0) L S (length stripe) (length output) card-ok (r .length-ok) set-ok length-stripe (omega (arith, r .size)) in (
         ok ∙ ap (λ (x : ℕ). accepted (x ∷ [])) (sym (r .size)),
         unless-accepted _ (recordLength C L S ∷ []) (recordBytes C L S stripe ++ drop (recordLength C L S) output) output ok
             ∙ ap (λ (l : List ℕ). recordBytes C L S stripe ++ l) (drop-of-length-le output past)
             ∙ append-nil (recordBytes C L S stripe) ∙ sym (laid-is C L S stripe length-stripe (columns-many (bodyIn file 0)) file (r .size) laid),
       )
-
-pub write-back : RecordWritesBack
-write-back file output k m L S b e n = rewritten file k m L S b e output n

@@ -47,10 +47,9 @@ module _ (file : List ℕ) (at : ℕ) (xs ys : List ℕ) where
 
   pub stands-right : (q : ℕ) → at + length xs ≡ q → Stands file at (xs ++ ys) → Stands file q ys
   stands-right q e s =
-      let whole : take (length xs) (drop at file) ++ take (length ys) (drop (at + length xs) file) ≡ xs ++ ys = sym both ∙ s in
-      let front : take (length xs) (drop at file) ≡ xs = stands-left s in
-      let w : xs ++ take (length ys) (drop (at + length xs) file) ≡ xs ++ ys = ap (λ (l : List ℕ). l ++ take (length ys) (drop (at + length xs) file)) (sym front) ∙ whole in
-      let r : take (length ys) (drop (at + length xs) file) ≡ ys = sym (drop-append-seam xs (take (length ys) (drop (at + length xs) file))) ∙ ap (drop (length xs)) w ∙ drop-append-seam xs ys in
+      let rest = take (length ys) (drop (at + length xs) file) in
+      let whole : xs ++ rest ≡ xs ++ ys = ap (λ (l : List ℕ). l ++ rest) (sym (stands-left s)) ∙ sym both ∙ s in
+      let r : rest ≡ ys = sym (drop-append-seam xs rest) ∙ ap (drop (length xs)) whole ∙ drop-append-seam xs ys in
       subst (λ (p : ℕ). Stands file p ys) e r
 
 -- ---- lists that follow each other

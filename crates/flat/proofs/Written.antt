@@ -1,13 +1,12 @@
--- The record reader reads what the record writer wrote.
+-- What the record writer accepts, and what is read from the record that it writes.
 -- Assumes nothing.
 use mathlib.Core.Path.{_≡_, sym, ap, _∙_, subst}
 use mathlib.Core.Bool.{true, not}
-use mathlib.Core.List.{List, [], _∷_, _++_}
+use mathlib.Core.List.{List, [], _∷_}
 use Prim.Native.Nat.{ℕ, _*_, _≤_, _<_}
 use borrow.Author.Tests.{eqb-true, not-false, eq-eqb, le-ltb}
 use lib.Dec.{T, eqb, ltb}
 use lib.ListN.{length, getD, take, drop}
-use lib.Seq.{take-at}
 use Rattle.gf2.specs.If.{if_then_else_}
 use Rattle.gf2.specs.Sets.{has}
 use Rattle.gf2.proofs.Tests.{if-false}
@@ -15,8 +14,7 @@ use Rattle.flat.specs.Lists.{padded}
 use Rattle.flat.specs.Cards.{Code, disks, setOk, codeOf}
 use Rattle.flat.specs.Strips.{lengthOk}
 use Rattle.flat.specs.Records.{bodyAt, recordLength, stripBody, recordBytes, bodyIn}
-use Rattle.flat.specs.Faults.{Report, accepted, refused, cardReport, cardColumns, recordWriteReport, recordWriteOutput, recordReport, recordColumns, bodyReport, bodyPart}
-use Rattle.flat.specs.Recorded.{RecordReadsBack}
+use Rattle.flat.specs.Faults.{Report, accepted, refused, cardReport, cardColumns, recordWriteReport, recordReport, recordColumns, bodyReport, bodyPart}
 use Rattle.flat.proofs.Reports.{passed, unless-accepted, with-accepted, with-out}
 use Rattle.flat.proofs.Cards.{Sound, accepted-card, card-accepted, length-columns}
 use Rattle.flat.proofs.Standing.{Stands, stands-take}
@@ -26,11 +24,11 @@ use Rattle.flat.proofs.Bodies.{body-accepted, body-lost, body-part}
 
 -- what is known of a call that the record writer accepts
 pub record Recordable (card : List ℕ) (L S n len : ℕ) : Type 0 where
-  card-ok : cardReport card ≡ accepted (codeOf card .k ∷ codeOf card .m ∷ [])
-  length-ok : lengthOk L ≡ true
-  set-ok : setOk (codeOf card) S ≡ true
-  stripe-size : n ≡ disks (codeOf card) * L
-  record-size : len ≡ recordLength (codeOf card) L S
+  pub card-ok : cardReport card ≡ accepted (codeOf card .k ∷ codeOf card .m ∷ [])
+  pub length-ok : lengthOk L ≡ true
+  pub set-ok : setOk (codeOf card) S ≡ true
+  pub stripe-size : n ≡ disks (codeOf card) * L
+  pub record-size : len ≡ recordLength (codeOf card) L S
 
 abbrev answer : ℕ → ℕ → ℕ → ℕ → Code → Report
 answer L S n p C =
@@ -40,7 +38,7 @@ answer L S n p C =
     if ltb p (recordLength C L S) then refused 16 [] else
     accepted (recordLength C L S ∷ [])
 
-recordable : (card : List ℕ) (L S n p len : ℕ) → recordWriteReport card L S n p ≡ accepted (len ∷ []) → Recordable card L S n len
+pub recordable : (card : List ℕ) (L S n p len : ℕ) → recordWriteReport card L S n p ≡ accepted (len ∷ []) → Recordable card L S n len
 unfolding recordWriteReport
 recordable card L S n p len e =
     let C = codeOf card in
@@ -75,7 +73,7 @@ unfolding codeOf
 columns-many card = length-columns (codeOf card .m) (drop 2 card)
 
 -- what is read from the record of a stripe
-abbrev Read : (card stripe : List ℕ) (L S : ℕ) → List ℕ → Type 0
+abbrev pub Read : (card stripe : List ℕ) (L S : ℕ) → List ℕ → Type 0
 Read card stripe L S file =
     (recordReport file ≡ accepted (codeOf card .k ∷ codeOf card .m ∷ L ∷ S ∷ []))
     × (recordColumns file ≡ cardColumns card)
@@ -124,14 +122,3 @@ module _ (card stripe : List ℕ) (L S : ℕ) (card-ok : cardReport card ≡ acc
     (λ d l f. (body-accepted file (C .k) (C .m) L S read d l f, body d l f)),
     (λ d l t. body-lost file (C .k) (C .m) L S read d l t),
   )
-
-pub read-back : RecordReadsBack
-unfolding recordWriteOutput
-read-back card stripe output L S len e =
-    let C = codeOf card in
-    let w = recordable card L S (length stripe) (length output) len e in
-    let long : length (recordBytes C L S stripe) ≡ len = length-record C L S stripe (w .stripe-size) (columns-many card) ∙ sym (w .record-size) in
-    let is : take len (recordWriteOutput card L S stripe output) ≡ recordBytes C L S stripe =
-    ap (take len) (unless-accepted _ (len ∷ []) (recordBytes C L S stripe ++ drop (recordLength C L S) output) output e)
-    ∙ take-at (recordBytes C L S stripe) (drop (recordLength C L S) output) len long in
-    subst (Read card stripe L S) (sym is) (record-read card stripe L S (w .card-ok) (w .length-ok) (w .set-ok) (w .stripe-size))
