@@ -41,9 +41,13 @@ copy-requires : tie.Need-copy-requires
 copy-requires c κs =
     let a = c .before .before .before .before .before .before .before .args in
     let there : has (a .lost) (a .i) ≡ false = sym (c .before .before .before .before .has .ensures) ∙ not-true _ (c .before .before .before .if1 .taken) in
-    omega
-    (arith, c .before .body-at .ensures, ap length (part-strip (a .i) (a .l) (a .stripe .now)), ap length (body-there (a .l) (a .lost) (a .i) (a .stripe .now) there),
-    body-next (a .start) (a .l) (a .lost) (a .i) (a .stripe .now) (c .before .before .before .before .before .before .before .pre .3))
+    omega (
+      arith,
+      c .before .body-at .ensures,
+      ap length (part-strip (a .i) (a .l) (a .stripe .now)),
+      ap length (body-there (a .l) (a .lost) (a .i) (a .stripe .now) there),
+      body-next (a .start) (a .l) (a .lost) (a .i) (a .stripe .now) (c .before .before .before .before .before .before .before .pre .3),
+    )
 
 same-length : tie.Need-same-length
 same-length c = search needs
@@ -52,7 +56,7 @@ returns : tie.Need-returns
 returns c =
     let a = c .before .before .before .before .before .before .before .before .before .before .args in
     let there : has (a .lost) (a .i) ≡ false =
-        sym (c .before .before .before .before .before .before .before .has .ensures) ∙ not-true _ (c .before .before .before .before .before .before .if1 .taken) in
+    sym (c .before .before .before .before .before .before .before .has .ensures) ∙ not-true _ (c .before .before .before .before .before .before .if1 .taken) in
     c .before .before .copy .ensures
     ∙ ap₂ (put (a .out .now)) (c .before .before .before .before .body-at .ensures)
     (part-strip (a .i) (a .l) (a .stripe .now) ∙ sym (body-there (a .l) (a .lost) (a .i) (a .stripe .now) there))
