@@ -1,4 +1,7 @@
+-- `record::bodies::body` meets its contract: the part is the file's own.
+-- Assumes nothing.
 use borrow.Author.Needs.{needs}
+use Rattle.record.proofs.Callers.{body-lent}
 use Rattle.record.proofs.bodies.body.Statement.{statement}
 use Rattle.record.proofs.bodies.body.Tie as tie
 
@@ -18,7 +21,8 @@ part-result-end : tie.Need-part-result-end
 part-result-end c = search needs
 
 returns : tie.Need-returns
-returns c = ?
+returns c =
+    let p = c .before .before .body-place .ensures .1 .0 in body-lent _ _ _ _ (p .0) (p .1)
 
 pub body-spec : {M : Type 1} → statement M
 body-spec =
