@@ -1,17 +1,17 @@
 -- What the reader answers, by what its tests and the card check found.
 -- Assumes nothing.
-use mathlib.Core.Path.{_≡_, refl, sym, ap, ap₂, _∙_}
+use mathlib.Core.Path.{_≡_, refl, sym, _∙_}
 use mathlib.Core.Bool.{Bool, true, false, not, _&&_}
 use mathlib.Core.List.{List, [], _∷_}
-use Prim.Native.Nat.{ℕ, suc, _+_, _*_}
+use Prim.Native.Nat.{ℕ, suc, _+_}
 use borrow.Author.Tests.{eq-eqb, ne-eqb}
 use lib.Dec.{eqb}
-use lib.ListN.{length, getD, take, drop}
+use lib.ListN.{length, getD, drop}
 use Rattle.gf2.specs.If.{if_then_else_}
 use Rattle.flat.specs.Lists.{every, setOf, same}
-use Rattle.flat.specs.Cards.{Code, code, codeOf, columnsIn, disks, cardLength}
+use Rattle.flat.specs.Cards.{Code, code, columnsIn, disks}
 use Rattle.flat.specs.Strips.{lengthOk}
-use Rattle.flat.specs.Records.{entryCount, bodiesAt, bodyAt, recordLength, stripEntry, lengthIn, entryCountIn, entryIn, bodyIn, markOk, entriesOk, cardEntryOk, lostIn, stripEntriesOk}
+use Rattle.flat.specs.Records.{entryCount, bodyAt, recordLength, stripEntry, lengthIn, entryCountIn, entryIn, bodyIn, markOk, entriesOk, cardEntryOk, lostIn, stripEntriesOk}
 use Rattle.flat.specs.Faults.{Report, accepted, refused, cardReport, withCard, withRecord, recordReport}
 use Rattle.card.specs.declared.CardFault.{CardFault}
 use Rattle.card.specs.declared.CardCheck.the-variants as card

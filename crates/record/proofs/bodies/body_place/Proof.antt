@@ -1,12 +1,11 @@
 -- `record::bodies::body_place` meets its contract.
 -- Assumes nothing.
-use mathlib.Core.Path.{_≡_, sym, ap, _∙_}
-use mathlib.Core.List.{List, [], _∷_}
+use mathlib.Core.Path.{sym, ap, _∙_}
+use mathlib.Core.List.{List}
 use Prim.Native.Nat.{ℕ}
 use native.Mathlib.Omega.{arith}
 use borrow.Author.Needs.{needs}
 use denote.Ref.{now}
-use Rattle.flat.specs.Faults.{accepted, recordReport}
 use Rattle.record.specs.Reports.{checkReport}
 use Rattle.record.proofs.Callers.{GoodRecord, good, no-disk, lost-disk, there, nowhere, bad-place}
 use Rattle.record.proofs.bodies.body_place.Statement.{statement}

@@ -1,7 +1,6 @@
 -- `record::reader::check_strips` meets its contract.
 -- Assumes nothing.
 use mathlib.Core.Path.{sym, _∙_}
-use native.Mathlib.Omega.{arith}
 use borrow.Author.Tests.{not-true, not-false}
 use borrow.Author.Needs.{needs}
 use Rattle.record.proofs.Answers.{other-count, other-entry, other-end, good-end}

@@ -1,6 +1,5 @@
 -- `record::reader::mark_ok` meets its contract.
 -- Assumes nothing.
-use mathlib.Core.Path.{_≡_}
 use borrow.Author.Needs.{needs}
 use Rattle.record.proofs.Heads.{mark-short, mark-long}
 use Rattle.record.proofs.reader.mark_ok.Statement.{statement}
