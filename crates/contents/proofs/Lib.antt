@@ -1,5 +1,6 @@
+pub mod Numbers
 pub mod Compared
 pub mod Counted
-pub mod Lengths
-pub mod Numbers
 pub mod Putting
+pub mod Lengths
+pub mod Blocks
