@@ -1,3 +1,6 @@
+pub mod Numbers
+pub mod Compared
 pub mod Counted
-pub mod Lengths
 pub mod Putting
+pub mod Lengths
+pub mod Blocks

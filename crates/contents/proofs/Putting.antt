@@ -29,9 +29,9 @@ unfolding put
 put-next s at b x y e h =
     let front : length (take at s ++ x) ≡ b = omega (arith, length-append (take at s) x, length-take-le at s (omega arith)) in
     let after : drop (b + length y) (take at s ++ x ++ drop (at + length x) s) ≡ drop (at + length (x ++ y)) s =
-        ap (λ (n : ℕ). drop (n + length y) (take at s ++ x ++ drop (at + length x) s)) (sym front)
-        ∙ drop-append-add (take at s ++ x) (drop (at + length x) s) (length y) ∙ drop-drop (length y) (at + length x) s
-        ∙ ap (λ (n : ℕ). drop n s) (let q : at + length x + length y ≡ at + length (x ++ y) = omega (arith, length-append x y) in q) in
+    ap (λ (n : ℕ). drop (n + length y) (take at s ++ x ++ drop (at + length x) s)) (sym front)
+    ∙ drop-append-add (take at s ++ x) (drop (at + length x) s) (length y) ∙ drop-drop (length y) (at + length x) s
+    ∙ ap (λ (n : ℕ). drop n s) (let q : at + length x + length y ≡ at + length (x ++ y) = omega (arith, length-append x y) in q) in
     ap₂ (λ (p q : List ℕ). p ++ y ++ q) (take-at (take at s ++ x) (drop (at + length x) s) b front) after
     ∙ ap (λ (p : List ℕ). p ++ drop (at + length (x ++ y)) s) (append-assoc (take at s) x y)
 

@@ -2,6 +2,9 @@ pub mod Lists
 pub mod Reports
 pub mod Cards
 pub mod RoundTrip
+pub mod Numbers
+pub mod Entries
+pub mod Received
 pub mod Quantifiers
 pub mod Words
 pub mod Rows

@@ -40,10 +40,12 @@ loop-again c =
     let i = c .before .before .before .before .before .loop .i in
     let t = c .before .before .before .before .loop-test .taken in
     let h = strip-room i (a .n) (a .l) _ t (pre .3) in
-    let g = body-grows (a .start) (a .l) (a .lost) (suc i) (a .n) (omega arith) in
-    (search needs, laid-more _ _ _ _ _ _ _ _ (c .before .before .before .before .before .loop .inv .1) (c .before .before .put-body .ensures) refl
-    (bodies-end (a .start) (a .l) (a .lost) i (a .stripe .now) (omega arith))
-    (omega (arith, body-next (a .start) (a .l) (a .lost) i (a .stripe .now) h)))
+    let g = body-grows (a .start) (a .l) (a .lost) (suc i) (a .n) (omega arith) in (
+      search needs,
+      laid-more _ _ _ _ _ _ _ _ (c .before .before .before .before .before .loop .inv .1) (c .before .before .put-body .ensures) refl
+          (bodies-end (a .start) (a .l) (a .lost) i (a .stripe .now) (omega arith))
+          (omega (arith, body-next (a .start) (a .l) (a .lost) i (a .stripe .now) h)),
+    )
 
 same-length : tie.Need-same-length Inv-loop μ-loop
 same-length c = search needs

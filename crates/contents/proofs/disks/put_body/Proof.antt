@@ -28,22 +28,26 @@ add-end c = search needs
 body-at-requires : tie.Need-body-at-requires
 body-at-requires c κs = search needs
 
-sub-copy : tie.Need-sub-copy
-sub-copy c = search needs
+sub-copy-long : tie.Need-sub-copy-long
+sub-copy-long c = search needs
 
-part-copy-start : tie.Need-part-copy-start
-part-copy-start c = search needs
+part-copy-long-start : tie.Need-part-copy-long-start
+part-copy-long-start c = search needs
 
-part-copy-end : tie.Need-part-copy-end
-part-copy-end c = search needs
+part-copy-long-end : tie.Need-part-copy-long-end
+part-copy-long-end c = search needs
 
-copy-requires : tie.Need-copy-requires
-copy-requires c κs =
+copy-long-requires : tie.Need-copy-long-requires
+copy-long-requires c κs =
     let a = c .before .before .before .before .before .before .before .args in
     let there : has (a .lost) (a .i) ≡ false = sym (c .before .before .before .before .has .ensures) ∙ not-true _ (c .before .before .before .if1 .taken) in
-    omega
-    (arith, c .before .body-at .ensures, ap length (part-strip (a .i) (a .l) (a .stripe .now)), ap length (body-there (a .l) (a .lost) (a .i) (a .stripe .now) there),
-    body-next (a .start) (a .l) (a .lost) (a .i) (a .stripe .now) (c .before .before .before .before .before .before .before .pre .3))
+    omega (
+      arith,
+      c .before .body-at .ensures,
+      ap length (part-strip (a .i) (a .l) (a .stripe .now)),
+      ap length (body-there (a .l) (a .lost) (a .i) (a .stripe .now) there),
+      body-next (a .start) (a .l) (a .lost) (a .i) (a .stripe .now) (c .before .before .before .before .before .before .before .pre .3),
+    )
 
 same-length : tie.Need-same-length
 same-length c = search needs
@@ -52,8 +56,8 @@ returns : tie.Need-returns
 returns c =
     let a = c .before .before .before .before .before .before .before .before .before .before .args in
     let there : has (a .lost) (a .i) ≡ false =
-        sym (c .before .before .before .before .before .before .before .has .ensures) ∙ not-true _ (c .before .before .before .before .before .before .if1 .taken) in
-    c .before .before .copy .ensures
+    sym (c .before .before .before .before .before .before .before .has .ensures) ∙ not-true _ (c .before .before .before .before .before .before .if1 .taken) in
+    c .before .before .copy-long .ensures
     ∙ ap₂ (put (a .out .now)) (c .before .before .before .before .body-at .ensures)
     (part-strip (a .i) (a .l) (a .stripe .now) ∙ sym (body-there (a .l) (a .lost) (a .i) (a .stripe .now) there))
 
@@ -72,10 +76,10 @@ put-body-spec =
     mul-from
     add-end
     body-at-requires
-    sub-copy
-    part-copy-start
-    part-copy-end
-    copy-requires
+    sub-copy-long
+    part-copy-long-start
+    part-copy-long-end
+    copy-long-requires
     same-length
     returns
     returns-2)

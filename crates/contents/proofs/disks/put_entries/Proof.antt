@@ -43,9 +43,11 @@ loop-less c = search needs
 loop-again : tie.Need-loop-again Inv-loop μ-loop
 loop-again c =
     let a = c .before .before .before .before .before .before .before .before .before .args in
-    let i = c .before .before .before .before .before .before .before .loop .i in
-    (search needs, laid-more _ _ _ _ _ _ _ _ (c .before .before .before .before .before .before .before .loop .inv .1) (c .before .before .copy .ensures) (c .before .before .before .before .before .strip-entry .ensures)
-    (omega (arith, length-entries (a .start) (a .l) (a .lost) i)) (omega (arith, length-strip-entry (a .start) (a .l) (a .lost) i)))
+    let i = c .before .before .before .before .before .before .before .loop .i in (
+      search needs,
+      laid-more _ _ _ _ _ _ _ _ (c .before .before .before .before .before .before .before .loop .inv .1) (c .before .before .copy .ensures) (c .before .before .before .before .before .strip-entry .ensures)
+          (omega (arith, length-entries (a .start) (a .l) (a .lost) i)) (omega (arith, length-strip-entry (a .start) (a .l) (a .lost) i)),
+    )
 
 same-length : tie.Need-same-length Inv-loop μ-loop
 same-length c = search needs
