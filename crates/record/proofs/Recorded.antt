@@ -2,7 +2,7 @@
 -- card it is the record that is asked for.
 -- Assumes nothing.
 use mathlib.Core.Path.{_≡_, refl, sym, ap, ap₂, _∙_}
-use mathlib.Core.List.{List, _++_, append-assoc}
+use mathlib.Core.List.{List, _++_}
 use Prim.Native.Nat.{ℕ, _+_, _*_, _≤_}
 use native.Mathlib.Omega.{arith}
 use lib.ListN.{length, drop, length-append}
@@ -60,7 +60,7 @@ module _ (card : List ℕ) (n L S : ℕ) where
     -- the parts, put one after the other
     pub record-put : (out : List ℕ) → bodyFrom (20 + 10 * n + length card) L S n ≤ length out
         → put (put (put (put (put (put out 0 mark) 4 (sizesOf n L)) 10 (entry 0 0 (20 + 10 * n) (length card))) 20 entries) (20 + 10 * n) card)
-          (20 + 10 * n + length card) bodies
+        (20 + 10 * n + length card) bodies
         ≡ put out 0 (recordFrom card n L S stripe)
     unfolding recordFrom
     record-put out h =
@@ -91,7 +91,28 @@ entry-asked : (k m : ℕ) (columns : List ℕ) (L S : ℕ) → stripEntry (code 
 unfolding stripEntry bodyAt entryCount disks stripEntryFrom stripsAt bodyFrom
 entry-asked k m columns L S = refl
 
+-- the record's parts in their order: the card's entry, the entries of the disks, the card, and the bodies
+assembled : (n L S : ℕ) (stripe : List ℕ) → ℕ → ℕ → (ℕ → List ℕ) → List ℕ → List ℕ
+assembled n L S stripe at len f card =
+    mark ++ bytes 4 L ++ bytes 2 (n + 1) ++ entry 0 0 at len ++ each f (range 0 n) ++ card ++ each (stripBody L S stripe) (range 0 n)
+
+code-record : (k m : ℕ) (columns : List ℕ) (L S : ℕ) (stripe : List ℕ)
+    → recordBytes (code k m columns) L S stripe
+    ≡ assembled (k + m) L S stripe (bodiesAt (k + m + 1)) (cardLength m) (stripEntryFrom (stripsAt (k + m) m) L S) (cardBytes (code k m columns))
+unfolding recordBytes entryCount disks assembled
+code-record k m columns L S stripe =
+    ap (λ (f : ℕ → List ℕ). assembled (k + m) L S stripe (bodiesAt (k + m + 1)) (cardLength m) f (cardBytes (code k m columns)))
+    (entry-asked k m columns L S)
+
 pub record-asked : (card : List ℕ) (k m L S : ℕ) (stripe : List ℕ) → Bytes card → GoodCard card k m
-    → recordFrom card (k + m) L S stripe ≡ recordBytes (codeOf card) L S stripe
-unfolding recordFrom recordBytes entryCount disks
-record-asked card k m L S stripe b g = ?
+    → recordBytes (codeOf card) L S stripe ≡ recordFrom card (k + m) L S stripe
+unfolding recordFrom assembled bodiesAt cardLength bytes
+record-asked card k m L S stripe b g =
+    let n = k + m in
+    let columns = columnsIn m (drop 2 card) in
+    let f = stripEntryFrom (stripsAt n m) L S in
+    let e : 10 + 10 * (n + 1) ≡ 20 + 10 * n = omega arith in
+    ap (λ (C : Code). recordBytes C L S stripe) (g .is) ∙ code-record k m columns L S stripe
+    ∙ ap₂ (λ (at len : ℕ). assembled n L S stripe at len f (cardBytes (code k m columns))) e (sym (g .size))
+    ∙ ap₂ (λ (at : ℕ) (c : List ℕ). assembled n L S stripe (20 + 10 * n) (length card) (stripEntryFrom at L S) c) (strips-start card n m (g .size))
+    (card-bytes-back card k m b (accepted-card card k m (g .found)))
