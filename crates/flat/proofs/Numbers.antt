@@ -1,18 +1,18 @@
 -- Numbers in bytes, lists compared, and how many numbers below a bound have a property.
 -- Assumes nothing.
-use mathlib.Core.Path.{_≡_, refl, sym, ap, ap₂, _∙_}
+use mathlib.Core.Path.{_≡_, refl, sym, ap, ap₂, _∙_, subst}
 use mathlib.Core.Bool.{Bool, true, false}
-use mathlib.Core.List.{List, [], _∷_, _++_, append-assoc}
+use mathlib.Core.List.{List, [], _∷_}
 use mathlib.Core.Logic.{_⊎_, inl, inr}
 use Prim.Native.Nat.{ℕ, zero, suc, _+_, _*_, _/_, _%_, _^_, _≤_, _<_}
 use native.Mathlib.Nat.{not-suc-le-zero, pow-suc}
 use native.Mathlib.Omega.{arith}
 use lib.Dec.{T, eqb, eqb-refl}
-use lib.ListN.{length, take, drop}
-use lib.Seq.{take-at, drop-at}
+use lib.ListN.{length, getD, take, drop, length-take, List·getD-eq-default}
+use lib.Seq.{getD-take, getD-drop}
 use Rattle.gf2.specs.If.{if_then_else_}
-use Rattle.gf2.proofs.Tests.{and-in, and-out, eqb-out, below-suc, if-true}
-use Rattle.flat.specs.Lists.{Bytes, count, same, bytes, number, field}
+use Rattle.gf2.proofs.Tests.{and-in, and-out, eqb-out, below-suc, below-or, if-true, if-false}
+use Rattle.flat.specs.Lists.{Bytes, count, same, bytes, number}
 
 -- ---- numbers in bytes
 
@@ -42,12 +42,14 @@ bytes-number (suc n) (x ∷ xs) b e =
     let rest : (x + 256 * number xs) / 256 ≡ number xs = omega arith in
     ap₂ _∷_ low (ap (bytes n) rest ∙ bytes-number n xs (λ i. b (suc i)) (omega arith))
 
--- a number read from the place at which its bytes stand
-pub field-bytes : (at n v : ℕ) (before after : List ℕ) → length before ≡ at → v < 256 ^ n → field at n (before ++ bytes n v ++ after) ≡ v
-unfolding field
-field-bytes at n v before after e h =
-    ap number (ap (take n) (ap (drop at) (append-assoc before (bytes n v) after) ∙ drop-at before (bytes n v ++ after) at e) ∙ take-at (bytes n v) after n (length-bytes n v))
-    ∙ number-bytes n v h
+-- a part of a list of bytes
+pub bytes-part : (at n : ℕ) (xs : List ℕ) → Bytes xs → Bytes (take n (drop at xs))
+bytes-part at n xs b i = go (below-or i n)
+  where
+    go : (i < n) ⊎ (n ≤ i) → getD (take n (drop at xs)) i 0 < 256
+    go (inl l) = subst (λ (x : ℕ). x < 256) (sym (getD-take n (drop at xs) i 0 l ∙ getD-drop at xs i 0)) (b (at + i))
+    go (inr l) =
+        subst (λ (x : ℕ). x < 256) (sym (List·getD-eq-default (take n (drop at xs)) 0 (omega (arith, length-take n (drop at xs))))) (omega arith)
 
 -- ---- lists compared
 
@@ -75,13 +77,26 @@ count-le (suc n) p = go (p n) (count-le n p)
     go true h = omega arith
     go false h = omega arith
 
--- one that has the property is one more
-pub count-below : (n d : ℕ) (p : ℕ → Bool) → d < n → T (p d) → suc (count d p) ≤ count n p
+-- the next number is one more where it has the property, and no more where not
+pub count-more : (i : ℕ) (p : ℕ → Bool) → T (p i) → count (suc i) p ≡ suc (count i p)
 unfolding count
+count-more i p t =
+    let w : _≡_ {A = ℕ} (if p i then 1 else 0) 1 = if-true (p i) 1 0 t in omega arith
+
+pub count-skip : (i : ℕ) (p : ℕ → Bool) → (T (p i) → ⊥) → count (suc i) p ≡ count i p
+unfolding count
+count-skip i p f =
+    let w : _≡_ {A = ℕ} (if p i then 1 else 0) 0 = if-false (p i) 1 0 f in omega arith
+
+count-up : (n : ℕ) (p : ℕ → Bool) → count n p ≤ count (suc n) p
+unfolding count
+count-up n p = omega arith
+
+-- one below the bound that has the property is one more
+pub count-below : (n d : ℕ) (p : ℕ → Bool) → d < n → T (p d) → suc (count d p) ≤ count n p
 count-below zero d p l t = absurd (not-suc-le-zero l)
 count-below (suc n) d p l t = go (below-suc d n l) (λ h. count-below n d p h t)
   where
-    go : (d < n) ⊎ (d ≡ n) → (d < n → suc (count d p) ≤ count n p) → suc (count d p) ≤ count n p + (if p n then 1 else 0)
-    go (inl h) rest = omega (arith, rest h)
-    go (inr e) rest =
-        rw (sym e) (let w : _≡_ {A = ℕ} (if p d then 1 else 0) 1 = if-true (p d) 1 0 t in omega arith)
+    go : (d < n) ⊎ (d ≡ n) → (d < n → suc (count d p) ≤ count n p) → suc (count d p) ≤ count (suc n) p
+    go (inl h) rest = omega (arith, rest h, count-up n p)
+    go (inr e) rest = rw (sym e) (omega (arith, count-more d p t))

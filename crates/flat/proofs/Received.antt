@@ -42,7 +42,7 @@ after-card file answer C =
     answer C
 
 -- what the reader answers
-abbrev read : List ℕ → Code → Report
+abbrev pub read : List ℕ → Code → Report
 read file C = accepted (C .k ∷ C .m ∷ lengthIn file ∷ lostIn C file ∷ [])
 
 -- a call is accepted only where the record passes them
@@ -83,6 +83,14 @@ pub with-received : (file : List ℕ) (k m L S : ℕ) → recordReport file ≡ 
     → withRecord file answer ≡ answer (codeOf (bodyIn file 0))
 unfolding recordReport
 with-received file k m L S e answer = with-passed file answer (passed-all file (k ∷ m ∷ L ∷ S ∷ []) (read file) e .0)
+
+-- a record whose report has the number 0 is accepted with what stands in it
+pub read-accepted : (file : List ℕ) → recordReport file .number ≡ 0 → recordReport file ≡ read file (codeOf (bodyIn file 0))
+unfolding recordReport
+read-accepted file e =
+    let vs = recordReport file .values in
+    let is : recordReport file ≡ accepted vs = ap (λ (n : ℕ). record { number = n; values = vs }) e in
+    is ∙ sym (passed-all file vs (read file) is .1)
 
 -- ---- what the reader refuses, each call that takes a record refuses
 
@@ -138,8 +146,25 @@ pub record Received (file : List ℕ) (k m L S : ℕ) : Type 0 where
   pub entries : (i : ℕ) → i < k + m → entryIn file (suc i) ≡ stripEntry (codeOf (bodyIn file 0)) L S i
   pub size : length file ≡ recordLength (codeOf (bodyIn file 0)) L S
 
+-- each disk's entry is the one that is written for it
+strip-entries : (C : Code) (file : List ℕ) → stripEntriesOk C file ≡ true
+    → (entryCountIn file ≡ entryCount C)
+    × ((i : ℕ) → i < disks C → entryIn file (suc i) ≡ stripEntry C (lengthIn file) (lostIn C file) i)
+unfolding stripEntriesOk
+strip-entries C file e =
+    let named : ℕ → Bool = λ i. same (entryIn file (suc i)) (stripEntry C (lengthIn file) (lostIn C file) i) in
+    let p = and-out (eqb (entryCountIn file) (entryCount C)) (every (disks C) named) (true-T e) in (
+      eqb-out (entryCountIn file) (entryCount C) (p .0),
+      λ i l. same-out (entryIn file (suc i)) (stripEntry C (lengthIn file) (lostIn C file) i) (every-out (disks C) named (p .1) i l),
+    )
+
+-- a lost set is one of the code's sets
+lost-below : (C : Code) (file : List ℕ) → lostIn C file < 2 ^ disks C
+unfolding lostIn
+lost-below C file = set-lt (disks C) _
+
 pub received : (file : List ℕ) (k m L S : ℕ) → recordReport file ≡ accepted (k ∷ m ∷ L ∷ S ∷ []) → Received file k m L S
-unfolding recordReport markOk entriesOk cardEntryOk stripEntriesOk bodyIn lostIn disks entryCount
+unfolding recordReport markOk cardEntryOk bodyIn disks entryCount
 received file k m L S e =
     let card = bodyIn file 0 in
     let C = codeOf card in
@@ -151,11 +176,14 @@ received file k m L S e =
     let eS : lostIn C file ≡ S = ap (λ (r : Report). getD (r .values) 3 0) (both .1) in
     let n : C .k + C .m ≡ k + m = ap₂ _+_ ek em in
     let marked = and-out (leb 10 (length file)) (same (take 4 file) mark) (true-T (p .mark-ok)) in
-    let front = and-out (eqb (getD (entryIn file 0) 0 0) 0 && eqb (getD (entryIn file 0) 1 0) 0 && eqb (offsetIn file 0) (bodiesAt (entryCountIn file))) (leb (offsetIn file 0 + bodyLengthIn file 0) (length file)) (true-T (p .card-entry-ok)) in
-    let named = and-out (eqb (getD (entryIn file 0) 0 0) 0 && eqb (getD (entryIn file 0) 1 0) 0) (eqb (offsetIn file 0) (bodiesAt (entryCountIn file))) (front .0) in
-    let kinds = and-out (eqb (getD (entryIn file 0) 0 0) 0) (eqb (getD (entryIn file 0) 1 0) 0) (named .0) in
-    let strips = and-out (eqb (entryCountIn file) (entryCount C)) (every (disks C) (λ i. same (entryIn file (suc i)) (stripEntry C (lengthIn file) (lostIn C file) i))) (true-T (p .strips-ok)) in
-    let many : entryCountIn file ≡ k + m + 1 = eqb-out (entryCountIn file) (entryCount C) (strips .0) ∙ ap (λ (x : ℕ). x + 1) n in
+    let kind = eqb (getD (entryIn file 0) 0 0) 0 in
+    let disk = eqb (getD (entryIn file 0) 1 0) 0 in
+    let here = eqb (offsetIn file 0) (bodiesAt (entryCountIn file)) in
+    let front = and-out (kind && disk && here) (leb (offsetIn file 0 + bodyLengthIn file 0) (length file)) (true-T (p .card-entry-ok)) in
+    let named = and-out (kind && disk) here (front .0) in
+    let kinds = and-out kind disk (named .0) in
+    let strips = strip-entries C file (p .strips-ok) in
+    let many : entryCountIn file ≡ k + m + 1 = strips .0 ∙ ap (λ (x : ℕ). x + 1) n in
     let ok : cardReport card ≡ accepted (k ∷ m ∷ []) = card-accepted card (p .card-ok) ∙ ap₂ (λ (x y : ℕ). accepted (x ∷ y ∷ [])) ek em in
     let inside : offsetIn file 0 + bodyLengthIn file 0 ≤ length file = leb-out _ _ (front .1) in
     let fits : bodyLengthIn file 0 ≤ length (drop (offsetIn file 0) file) = omega (arith, length-drop (offsetIn file 0) file) in
@@ -173,9 +201,8 @@ received file k m L S e =
       is-k = ek;
       is-m = em;
       lost = eS;
-      lost-lt = subst (λ (x : ℕ). x < 2 ^ (k + m)) eS (subst (λ (x : ℕ). lostIn C file < 2 ^ x) n (set-lt (C .k + C .m) (λ i. eqb (getD (entryIn file (suc i)) 0 0) 2)));
-      entries = λ i l. same-out (entryIn file (suc i)) (stripEntry C (lengthIn file) (lostIn C file) i) (every-out (disks C) _ (strips .1) i (omega arith))
-          ∙ ap₂ (λ (x y : ℕ). stripEntry C x y i) eL eS;
+      lost-lt = subst (λ (x : ℕ). x < 2 ^ (k + m)) eS (subst (λ (x : ℕ). lostIn C file < 2 ^ x) n (lost-below C file));
+      entries = λ i l. strips .1 i (omega arith) ∙ ap₂ (λ (x y : ℕ). stripEntry C x y i) eL eS;
       size = eqb-true (length file) _ (p .size-ok) ∙ ap₂ (recordLength C) eL eS;
     }
 
