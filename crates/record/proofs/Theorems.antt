@@ -6,14 +6,38 @@ use lib.ListN.{getD}
 use Rattle.gf2.specs.If.{if_then_else_}
 use Rattle.flat.specs.Faults.{Report}
 use Rattle.card.proofs.Theorems.{carried, carried-back}
+use Rattle.record.specs.declared.writer.RecordWritten.{RecordWritten}
+use Rattle.record.specs.declared.writer.RecordWritten.the-variants as written
 use Rattle.record.specs.declared.reader.RecordFault.{RecordFault}
 use Rattle.record.specs.declared.reader.RecordFault.the-variants as fault
 use Rattle.record.specs.declared.reader.RecordCheck.{RecordCheck}
 use Rattle.record.specs.declared.reader.RecordCheck.the-variants as check
 use Rattle.record.specs.declared.bodies.BodyCheck.{BodyCheck}
 use Rattle.record.specs.declared.bodies.BodyCheck.the-variants as body
-use Rattle.record.specs.Reports.{recordFaultReport, checkReport, thereReport}
-use Rattle.record.specs.Theorems.{FaultInjective, CheckInjective, ThereInjective}
+use Rattle.record.specs.Reports.{writtenReport, recordFaultReport, checkReport, thereReport}
+use Rattle.record.specs.Theorems.{WrittenInjective, FaultInjective, CheckInjective, ThereInjective}
+
+-- ---- the writer
+
+abbrev writtenFrom : Report → RecordWritten
+writtenFrom r =
+    carried r written.Card
+    (if eqb (r .number) 6 then written.StripLength else
+    if eqb (r .number) 7 then written.StripeLength else
+    if eqb (r .number) 8 then written.OutsideSet else
+    if eqb (r .number) 16 then written.Output else
+    written.Length (getD (r .values) 0 0))
+
+written-back : (a : RecordWritten) → writtenFrom (writtenReport a) ≡ a
+written-back (written.Length t) = refl
+written-back (written.Card f) = carried-back f written.Card _
+written-back written.StripLength = refl
+written-back written.OutsideSet = refl
+written-back written.StripeLength = refl
+written-back written.Output = refl
+
+pub written-injective : WrittenInjective
+written-injective a b e = sym (written-back a) ∙ ap writtenFrom e ∙ written-back b
 
 -- ---- the reader and the body call
 
