@@ -170,8 +170,8 @@ static uint64_t compare_read(const uint8_t *file, size_t file_len, struct lent_t
     memset(&wanted, 0xa5, sizeof wanted);
     memset(after, 0xa5, sizeof *after);
     input.call = READER;
-    uint64_t engine = bridgecrumb_record_read(file, file_len, after->fields, after->columns);
-    uint64_t answer = counted(engine, reference_read(file, file_len, wanted.fields, wanted.columns));
+    uint64_t reference = reference_read(file, file_len, wanted.fields, wanted.columns);
+    uint64_t answer = counted(bridgecrumb_record_read(file, file_len, after->fields, after->columns), reference);
     same_bytes("fields", after, &wanted, sizeof wanted.before, offsetof(struct lent_to_reader, columns));
     same_bytes("columns", after->columns, wanted.columns, 0, sizeof wanted.columns + sizeof wanted.behind);
     return answer;
@@ -184,8 +184,8 @@ static uint64_t compare_body(const uint8_t *file, size_t file_len, size_t disk, 
     memset(after, 0x5a, sizeof *after);
     input.call = BODY;
     input.disk = disk;
-    uint64_t engine = bridgecrumb_record_body(file, file_len, disk, after->place);
-    uint64_t answer = counted(engine, reference_body(file, file_len, disk, wanted.place));
+    uint64_t reference = reference_body(file, file_len, disk, wanted.place);
+    uint64_t answer = counted(bridgecrumb_record_body(file, file_len, disk, after->place), reference);
     same_bytes("place", after, &wanted, sizeof wanted.before, sizeof wanted);
     return answer;
 }

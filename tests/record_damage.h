@@ -6,8 +6,8 @@
 
 #include "record_files.h"
 
-#define RANDOM_DAMAGES 300000
-#define RANDOM_STRINGS 300000
+#define RANDOM_DAMAGES 600000
+#define RANDOM_STRINGS 400000
 
 static uint8_t whole[65536], damaged[65536];
 

@@ -176,18 +176,36 @@ static size_t with_entries(uint8_t *file, const uint8_t *card, size_t strip_len,
     return at;
 }
 
+/* where E is out of its range, 14 comes before the card's faults */
 static void other_entry_counts(const uint8_t *card)
 {
     static uint8_t file[LARGEST_CARD + MORE];
     size_t n = disks_of(card);
-    for (size_t entries = 3; entries <= 33; entries++)
+    for (size_t entries = 1; entries <= 40; entries++)
         for (size_t strip_len = 1; strip_len <= 3; strip_len++) {
             size_t length = with_entries(file, card, strip_len, entries);
             expect_file(file, length, n, entries == n + 1 ? 0 : 14);
             expect_file(file, length + 1, n, entries == n + 1 ? 15 : 14);
             put_column(file + entry_place(entries), card[1] - 1, 0);
-            expect_file(file, length, n, refused(5, card[1] - 1));
+            expect_file(file, length, n, entries < 3 || entries > 33 ? 14 : refused(5, card[1] - 1));
         }
+}
+
+/* E is n, and what follows the entries, C4's card and the first four bytes of a strip, can be taken for the entry of the last disk */
+static void card_like_an_entry(void)
+{
+    static struct file file;
+    size_t strip_len = 65537 - 46;
+    file.length = 46 + 2 * strip_len;
+    memcpy(file.bytes, mark, 4);
+    put_number(file.bytes, 4, 4, strip_len);
+    put_number(file.bytes, 8, 2, 3);
+    put_entry(file.bytes, 0, CARD_KIND, 0, 40, 6);
+    put_entry(file.bytes, 1, LOST_KIND, 0, 0, 0);
+    put_entry(file.bytes, 2, STRIP_KIND, 1, 46, strip_len);
+    memcpy(file.bytes + 40, C4, 6);
+    put_number(file.bytes, 46, 4, strip_len);
+    expect_file(file.bytes, file.length, 3, 14);
 }
 
 static void all_faults(void)
@@ -209,6 +227,7 @@ static void all_faults(void)
         random_card(card, times == 0);
         other_entry_counts(card);
     }
+    card_like_an_entry();
 }
 
 #endif

@@ -9,7 +9,7 @@
 #include "record_writer.h"
 
 #define RANDOM_RECORDS 20000
-#define LONG_RECORDS 10
+#define LONG_RECORDS 40
 
 static struct file file;
 
@@ -126,14 +126,13 @@ static void good_records(void)
 
 static void long_records(void)
 {
-    static const size_t strip_lens[] = {65536, 65535, 4096, 32768};
     struct writing w;
     begin("long strips");
     for (int times = 0; times < LONG_RECORDS; times++) {
         memset(&w, 0, sizeof w);
         w.card_len = random_card(w.card, times < 4);
         w.lost = kind_of_loss(times % 4, disks_of(w.card));
-        w.strip_len = strip_lens[times < 6 ? 0 : times % 4];
+        w.strip_len = times < 8 ? LARGEST_STRIP : 601 + below(LARGEST_STRIP - 601);
         good_one(&w);
     }
 }
