@@ -124,6 +124,15 @@ static void good_records(void)
     }
 }
 
+/* the longest, both sides of the lengths at which blocks end, and any */
+static size_t long_strip(size_t times)
+{
+    static const size_t strip_lens[] = {1023, 1024, 1025, 4095, 4096, 4097, 8191, 8192, 8193, 65535};
+    if (times < 8)
+        return LARGEST_STRIP;
+    return times < 18 ? strip_lens[times - 8] : 601 + below(LARGEST_STRIP - 601);
+}
+
 static void long_records(void)
 {
     struct writing w;
@@ -132,7 +141,7 @@ static void long_records(void)
         memset(&w, 0, sizeof w);
         w.card_len = random_card(w.card, times < 4);
         w.lost = kind_of_loss(times % 4, disks_of(w.card));
-        w.strip_len = times < 8 ? LARGEST_STRIP : 601 + below(LARGEST_STRIP - 601);
+        w.strip_len = long_strip(times);
         good_one(&w);
     }
 }
