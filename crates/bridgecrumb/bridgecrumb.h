@@ -36,20 +36,4 @@ uint64_t bridgecrumb_encode(const uint8_t *card, size_t card_len, size_t strip_l
  * 11 is a set whose loss is fatal; number 12 is survivors that no encoded stripe has. */
 uint64_t bridgecrumb_rebuild(const uint8_t *card, size_t card_len, size_t strip_len, uint32_t lost, uint8_t *stripe, size_t stripe_len);
 
-/* Takes card, strip length, lost set, stripe and output. The record file of the stripe comes to stand at
- * the front of `out`; the rest of it is unchanged. The value is the record's length. Numbers 6, 7 and 8 are
- * those of the rebuilder; number 16 is an output that is shorter than the record. */
-uint64_t bridgecrumb_record_write(const uint8_t *card, size_t card_len, size_t strip_len, uint32_t lost, const uint8_t *stripe, size_t stripe_len,
-                                  uint8_t *out, size_t out_len);
-
-/* Takes a record file. k, m, the strip length and the lost set come into `fields`, the m columns and then
- * zeros into `columns`. No value. Number 13 is another mark; number 6 is the file's strip length; number 14
- * is other contents; numbers 1 to 5 are the file's card; number 15 is another length of the file. */
-uint64_t bridgecrumb_record_read(const uint8_t *file, size_t file_len, size_t fields[4], uint16_t columns[16]);
-
-/* Takes a record file and a disk. Where the disk's strip stands comes into `place`: the offset of its first
- * byte in the file, and its length. No value. The numbers are those of the reader; then number 9 is a disk
- * that the code lacks, and number 16 is a lost one. */
-uint64_t bridgecrumb_record_body(const uint8_t *file, size_t file_len, size_t disk, size_t place[2]);
-
 #endif
