@@ -8,6 +8,7 @@ ghost use Rattle.flat.specs.Records.{stripBody, entryIn};
 ghost use Rattle.contents.specs.Places.{put, bodyFrom, stripEntryFrom};
 use crate::body_at;
 use crate::copy;
+use crate::copying::copy_long;
 use crate::stands;
 use crate::strip_entry;
 
@@ -30,7 +31,7 @@ fn put_body(out: &mut [u8], start: usize, l: usize, lost: u32, stripe: &[u8], i:
     if !gf2::has(lost, i as u32) {
         let from = i * l;
         let end = from + l;
-        copy(out, body_at(start, l, lost, i), &stripe[from..end]);
+        copy_long(out, body_at(start, l, lost, i), &stripe[from..end]);
     }
 }
 

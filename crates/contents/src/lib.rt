@@ -11,8 +11,10 @@ ghost use Rattle.flat.specs.Lists.{bytes, field, same};
 ghost use Rattle.flat.specs.Records.{entry};
 ghost use Rattle.contents.specs.Places.{put, stripsAt, bodyFrom, stripEntryFrom};
 
+mod copying;
 mod disks;
 
+pub use copying::copy_long;
 pub use disks::entries_stand;
 pub use disks::lost_in;
 pub use disks::put_bodies;

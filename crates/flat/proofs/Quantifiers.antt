@@ -2,17 +2,18 @@
 -- Assumes nothing.
 use mathlib.Core.Path.{_≡_, refl, sym, ap, ap₂, _∙_, subst}
 use mathlib.Core.Bool.{Bool, true, false, _&&_, _||_}
-use mathlib.Core.Logic.{_⊎_, inl, inr, _≢_}
+use mathlib.Core.Logic.{_⊎_, inl, inr}
 use Prim.Native.Nat.{ℕ, zero, suc, _+_, _*_, _%_, _^_, _≤_, _<_}
-use native.Mathlib.Nat.{not-suc-le-zero, le-suc-iff, pow-suc, lt-irrefl}
+use native.Mathlib.Nat.{not-suc-le-zero, pow-suc, lt-irrefl}
 use native.Mathlib.Omega.{arith}
 use lib.Dec.{T}
 use lib.Pow.{pow-pos}
 use lib.Bits.{xor-disjoint, and-comm, and-shifted}
 use Rattle.gf2.specs.If.{if_then_else_}
 use Rattle.gf2.specs.Sets.{bit, has, _⊕_}
-use Rattle.gf2.proofs.Tests.{dec, below-suc, below-or}
+use Rattle.gf2.proofs.Tests.{dec, T-ext, below-suc, below-or}
 use Rattle.gf2.proofs.Bits.{bit-lt, bit-above, bit-⊕, bit-pow-same, bit-pow-other, not-has, has-if}
+use Rattle.gf2.proofs.Subsets.{same-disks}
 use Rattle.flat.specs.Lists.{some, every, setOf}
 
 -- a number below n with property P, and all of them
@@ -130,3 +131,12 @@ set-out n p i t = go (below-or i n)
 
 pub set-in : (n : ℕ) (p : ℕ → Bool) (i : ℕ) → i < n → T (p i) → T (has (setOf n p) i)
 set-in n p i l t = subst T (sym (has-set n p i l)) t
+
+-- the set of the disks that a set below 2 ^ n has is that set
+pub set-is : (n S : ℕ) (p : ℕ → Bool) → S < 2 ^ n → ((i : ℕ) → i < n → p i ≡ has S i) → setOf n p ≡ S
+set-is n S p h e = same-disks (setOf n p) S (λ i. go i (below-or i n))
+  where
+    go : (i : ℕ) → (i < n) ⊎ (n ≤ i) → has (setOf n p) i ≡ has S i
+    go i (inl l) = has-set n p i l ∙ e i l
+    go i (inr l) =
+        T-ext (λ t. absurd (not-has (setOf n p) i (bit-above n (setOf n p) i (set-lt n p) l) t)) (λ t. absurd (not-has S i (bit-above n S i h l) t))

@@ -1,0 +1,80 @@
+-- What a comparison keeps that stops at the first difference: of bytes, and of tests that each number below a bound has to pass.
+-- Assumes nothing.
+use mathlib.Core.Path.{_≡_, refl, sym, ap, ap₂, _∙_}
+use mathlib.Core.Bool.{Bool, true, false, _&&_}
+use mathlib.Core.List.{List, [], _∷_}
+use Prim.Native.Nat.{ℕ, suc, _+_, _*_, _≤_, _<_}
+use native.Mathlib.Nat.{add-zero}
+use native.Mathlib.Numerals.{add-one}
+use native.Mathlib.Omega.{arith}
+use borrow.Author.Tests.{eq-eqb, ne-eqb}
+use lib.Dec.{eqb}
+use lib.ListN.{length, getD, take, drop}
+use lib.Seq.{drop-cons, drop-length}
+use Rattle.gf2.proofs.Tests.{T-true, T-false, true-T, false-T}
+use Rattle.flat.specs.Lists.{every, same}
+use Rattle.flat.specs.Records.{entryIn}
+use Rattle.flat.proofs.Quantifiers.{every-in, every-out}
+use Rattle.contents.specs.Places.{stripEntryFrom}
+
+-- ---- bytes
+
+-- whether the wanted bytes from t on stand in s
+unfoldable pub from : List ℕ → ℕ → List ℕ → ℕ → Bool
+unfolding same
+from s at wanted t = same (take (length (drop t wanted)) (drop (at + t) s)) (drop t wanted)
+
+-- the first t bytes are the wanted ones
+pub record Standing (s : List ℕ) (at : ℕ) (wanted : List ℕ) (t : ℕ) : Type 0 where
+  pub within : t ≤ length wanted
+  pub so-far : same (take (length wanted) (drop at s)) wanted ≡ from s at wanted t
+
+from-at : (s : List ℕ) (at : ℕ) (wanted : List ℕ) (t : ℕ) → t < length wanted → at + t < length s
+    → from s at wanted t ≡ (eqb (getD s (at + t) 0) (getD wanted t 0) && from s at wanted (t + 1))
+unfolding from
+from-at s at wanted t h l =
+    let e : at + suc t ≡ suc (at + t) = omega arith in
+    rw (add-one, e, drop-cons wanted t 0, drop-cons s (at + t) 0)
+
+pub standing-none : (s : List ℕ) (at : ℕ) (wanted : List ℕ) → Standing s at wanted 0
+unfolding from
+standing-none s at wanted = record { within = omega arith; so-far = rw add-zero }
+
+pub standing-more : (s : List ℕ) (at : ℕ) (wanted : List ℕ) (t : ℕ) → Standing s at wanted t → t < length wanted → at + length wanted ≤ length s
+    → getD s (at + t) 0 ≡ getD wanted t 0 → Standing s at wanted (t + 1)
+standing-more s at wanted t r h l e =
+    record { within = omega arith; so-far = r .so-far ∙ from-at s at wanted t h (omega arith) ∙ simp (eq-eqb _ _ e) }
+
+pub standing-other : (s : List ℕ) (at : ℕ) (wanted : List ℕ) (t : ℕ) → Standing s at wanted t → t < length wanted → at + length wanted ≤ length s
+    → (getD s (at + t) 0 ≡ getD wanted t 0 → ⊥) → false ≡ same (take (length wanted) (drop at s)) wanted
+standing-other s at wanted t r h l f = sym (r .so-far ∙ from-at s at wanted t h (omega arith) ∙ simp (ne-eqb _ _ f))
+
+pub standing-all : (s : List ℕ) (at : ℕ) (wanted : List ℕ) (t : ℕ) → Standing s at wanted t → length wanted ≤ t
+    → true ≡ same (take (length wanted) (drop at s)) wanted
+unfolding from
+standing-all s at wanted t r h =
+    let e : t ≡ length wanted = omega (arith, r .within) in
+    sym (r .so-far ∙ ap (λ (i : ℕ). from s at wanted i) e ∙ rw drop-length)
+
+-- ---- tests
+
+pub every-more : (i : ℕ) (p : ℕ → Bool) → every i p ≡ true → p i ≡ true → every (i + 1) p ≡ true
+unfolding every
+every-more i p e h = rw (add-one, e, h)
+
+-- one test that fails
+pub every-other : (n i : ℕ) (p : ℕ → Bool) → i < n → p i ≡ false → false ≡ every n p
+every-other n i p l e = sym (T-false (λ t. false-T e (every-out n p t i l)))
+
+-- ---- entries
+
+-- whether disk i has the entry that is written for it
+abbrev pub entryStands : List ℕ → ℕ → ℕ → ℕ → ℕ → Bool
+entryStands file start L S i = same (entryIn file (suc i)) (stripEntryFrom start L S i)
+
+pub entry-stands : (file wanted : List ℕ) (start L S i : ℕ) (b : Bool) → length wanted ≡ 10 → wanted ≡ stripEntryFrom start L S i
+    → b ≡ same (take (length wanted) (drop (20 + 10 * i) file)) wanted → entryStands file start L S i ≡ b
+unfolding entryIn
+entry-stands file wanted start L S i b n e q =
+    let at : 10 + 10 * suc i ≡ 20 + 10 * i = omega arith in
+    sym (q ∙ rw (n, e, sym at))

@@ -1,0 +1,73 @@
+-- Bytes put into a slice: where nothing is put, how long the slice stays, one run after another, and runs put in order by a loop.
+-- Assumes nothing.
+use mathlib.Core.Path.{_≡_, refl, sym, ap, ap₂, _∙_}
+use mathlib.Core.List.{List, [], _∷_, _++_, append-assoc, append-nil}
+use Prim.Native.Nat.{ℕ, zero, suc, _+_, _≤_}
+use native.Mathlib.Nat.{add-zero, le-refl}
+use native.Mathlib.Numerals.{add-one}
+use native.Mathlib.Omega.{arith}
+use lib.ListN.{length, take, drop, length-append}
+use lib.Seq.{take-length, take-at, drop-append-add, drop-drop, length-take-le, paste, paste-zero, length-paste}
+use Rattle.flat.specs.Lists.{range, each}
+use Rattle.contents.specs.Places.{put}
+
+-- a copy of all bytes
+pub put-paste : (s : List ℕ) (at : ℕ) (new : List ℕ) → paste s at new (length new) ≡ put s at new
+unfolding put
+put-paste s at new = ap (λ (x : List ℕ). take at s ++ x ++ drop (at + length new) s) (take-length new)
+
+pub put-none : (s : List ℕ) (at : ℕ) → put s at [] ≡ s
+unfolding put
+put-none s at = sym (paste-zero s at [])
+
+pub length-put : (s : List ℕ) (at : ℕ) (new : List ℕ) → at + length new ≤ length s → length (put s at new) ≡ length s
+length-put s at new h = ap length (sym (put-paste s at new)) ∙ length-paste s at new (length new) h (le-refl (length new))
+
+-- one run, and another right after it
+pub put-next : (s : List ℕ) (at b : ℕ) (x y : List ℕ) → b ≡ at + length x → b ≤ length s → put (put s at x) b y ≡ put s at (x ++ y)
+unfolding put
+put-next s at b x y e h =
+    let front : length (take at s ++ x) ≡ b = omega (arith, length-append (take at s) x, length-take-le at s (omega arith)) in
+    let after : drop (b + length y) (take at s ++ x ++ drop (at + length x) s) ≡ drop (at + length (x ++ y)) s =
+    ap (λ (n : ℕ). drop (n + length y) (take at s ++ x ++ drop (at + length x) s)) (sym front)
+    ∙ drop-append-add (take at s ++ x) (drop (at + length x) s) (length y) ∙ drop-drop (length y) (at + length x) s
+    ∙ ap (λ (n : ℕ). drop n s) (let q : at + length x + length y ≡ at + length (x ++ y) = omega (arith, length-append x y) in q) in
+    ap₂ (λ (p q : List ℕ). p ++ y ++ q) (take-at (take at s ++ x) (drop (at + length x) s) b front) after
+    ∙ ap (λ (p : List ℕ). p ++ drop (at + length (x ++ y)) s) (append-assoc (take at s) x y)
+
+-- ---- lists one after the other
+
+each-last : {A : Type 0} (f : ℕ → List A) (a n : ℕ) → each f (range a (suc n)) ≡ each f (range a n) ++ f (a + n)
+unfolding each range
+each-last f a zero = append-nil (f a) ∙ ap f (sym (add-zero a))
+each-last f a (suc n) =
+    ap (λ l. f a ++ l) (each-last f (suc a) n) ∙ sym (append-assoc (f a) (each f (range (suc a) n)) (f (suc a + n)))
+    ∙ ap (λ (i : ℕ). f a ++ each f (range (suc a) n) ++ f i) (let e : suc a + n ≡ a + suc n = omega arith in e)
+
+pub each-suc : (f : ℕ → List ℕ) (n : ℕ) → each f (range 0 (suc n)) ≡ each f (range 0 n) ++ f n
+each-suc f n = each-last f 0 n ∙ ap (λ (i : ℕ). each f (range 0 n) ++ f i) (let e : 0 + n ≡ n = omega arith in e)
+
+-- ---- the runs f 0, .., f (i - 1), put in order
+
+pub record Laid (f : ℕ → List ℕ) (s₀ : List ℕ) (at i : ℕ) (s : List ℕ) : Type 0 where
+  pub so-far : s ≡ put s₀ at (each f (range 0 i))
+  pub long : length s ≡ length s₀
+
+pub laid-none : (f : ℕ → List ℕ) (s : List ℕ) (at : ℕ) → Laid f s at 0 s
+unfolding each range
+laid-none f s at = record { so-far = sym (put-none s at); long = refl }
+
+-- the next run goes to b, right after those before it
+pub laid-more : (f : ℕ → List ℕ) (s₀ s next new : List ℕ) (at i b : ℕ) → Laid f s₀ at i s → next ≡ put s b new → new ≡ f i
+    → b ≡ at + length (each f (range 0 i)) → b + length (f i) ≤ length s₀ → Laid f s₀ at (i + 1) next
+laid-more f s₀ s next new at i b r q w e h =
+    let p : next ≡ put s b (f i) = q ∙ ap (put s b) w in
+    record {
+      so-far =
+          p ∙ ap (λ (x : List ℕ). put x b (f i)) (r .so-far) ∙ put-next s₀ at b (each f (range 0 i)) (f i) e (omega arith)
+          ∙ ap (put s₀ at) (sym (each-suc f i) ∙ ap (λ (n : ℕ). each f (range 0 n)) (sym (add-one i)));
+      long = ap length p ∙ length-put s b (f i) (omega (arith, r .long)) ∙ r .long;
+    }
+
+pub laid-all : (f : ℕ → List ℕ) (s₀ s : List ℕ) (at i n : ℕ) → Laid f s₀ at i s → i ≡ n → s ≡ put s₀ at (each f (range 0 n))
+laid-all f s₀ s at i n r e = r .so-far ∙ ap (λ (m : ℕ). put s₀ at (each f (range 0 m))) e

@@ -1,0 +1,102 @@
+-- An entry of a record's contents, and the places of the bodies that the entries name.
+-- Assumes nothing.
+use mathlib.Core.Path.{_≡_, refl, sym, ap, _∙_}
+use mathlib.Core.Bool.{Bool, true, false, not}
+use mathlib.Core.List.{List, [], _∷_}
+use Prim.Native.Nat.{ℕ, suc, _+_, _*_, _^_, _≤_, _<_}
+use native.Mathlib.Nat.{mul-le-mul-left, mul-le-mul-right}
+use native.Mathlib.Omega.{arith}
+use lib.Dec.{T, leb}
+use lib.ListN.{length, getD, take, drop, length-append, length-drop}
+use lib.Seq.{length-take-le}
+use Rattle.gf2.specs.If.{if_then_else_}
+use Rattle.gf2.specs.Sets.{has}
+use Rattle.gf2.proofs.Tests.{true-T, and-out, not-in, leb-out}
+use Rattle.flat.specs.Lists.{Bytes, count, bytes, number, field}
+use Rattle.flat.specs.Cards.{Code, disks, cardLength}
+use Rattle.flat.specs.Strips.{lengthOk}
+use Rattle.flat.specs.Records.{entryCount, bodiesAt, entry, bodyAt, recordLength, stripEntry}
+use Rattle.flat.proofs.Numbers.{length-bytes, number-bytes, bytes-number, bytes-part, count-le, count-below}
+use Rattle.flat.proofs.Standing.{Stands, stands-self, stands-whole, stands-take, take-stands, stands-join, stands-left, stands-right}
+
+-- a strip's length that passed its test
+pub length-in : (L : ℕ) → lengthOk L ≡ true → (1 ≤ L) × (L ≤ 65536)
+unfolding lengthOk
+length-in L e = let p = and-out (leb 1 L) (leb L 65536) (true-T e) in (leb-out 1 L (p .0), leb-out L 65536 (p .1))
+
+-- ---- an entry's bytes
+
+-- a number where its bytes stand
+pub field-stands : (file : List ℕ) (at n v : ℕ) → Stands file at (bytes n v) → v < 256 ^ n → field at n file ≡ v
+unfolding field
+field-stands file at n v s h = ap number (stands-take file at n (bytes n v) (length-bytes n v) s) ∙ number-bytes n v h
+
+pub length-entry : (kind disk offset len : ℕ) → length (entry kind disk offset len) ≡ 10
+unfolding entry
+length-entry kind disk offset len = omega (arith, length-append (bytes 4 offset) (bytes 4 len), length-bytes 4 offset, length-bytes 4 len)
+
+pub length-strip-entry : (C : Code) (L S i : ℕ) → length (stripEntry C L S i) ≡ 10
+unfolding stripEntry
+length-strip-entry C L S i = go (has S i)
+  where
+    go : (b : Bool) → length (if b then entry 2 i 0 0 else entry 1 i (bodyAt C L S i) L) ≡ 10
+    go true = length-entry 2 i 0 0
+    go false = length-entry 1 i (bodyAt C L S i) L
+
+-- and the bytes where the number is
+pub stands-field : (file : List ℕ) (at n v : ℕ) → Bytes file → at + n ≤ length file → field at n file ≡ v → Stands file at (bytes n v)
+unfolding field
+stands-field file at n v b h e =
+    take-stands file at n (bytes n v) (length-bytes n v)
+    (sym (ap (bytes n) (sym e)
+    ∙ bytes-number n (take n (drop at file)) (bytes-part at n file b) (length-take-le n (drop at file) (omega (arith, length-drop at file)))))
+
+-- the offset and the length that it names
+pub entry-offset : (kind disk offset len : ℕ) → offset < 256 ^ 4 → field 2 4 (entry kind disk offset len) ≡ offset
+unfolding entry
+entry-offset kind disk offset len h =
+    let whole = entry kind disk offset len in
+    field-stands whole 2 4 offset
+    (stands-right whole 0 (kind ∷ disk ∷ []) (bytes 4 offset) 2 refl
+    (stands-left whole 0 (kind ∷ disk ∷ bytes 4 offset) (bytes 4 len) (stands-self whole))) h
+
+pub entry-length : (kind disk offset len : ℕ) → len < 256 ^ 4 → field 6 4 (entry kind disk offset len) ≡ len
+unfolding entry
+entry-length kind disk offset len h =
+    let whole = entry kind disk offset len in
+    field-stands whole 6 4 len
+    (stands-right whole 0 (kind ∷ disk ∷ bytes 4 offset) (bytes 4 len) 6 (omega (arith, length-bytes 4 offset)) (stands-self whole)) h
+
+-- ten bytes are the entry of what they name
+pub entry-back : (xs : List ℕ) → Bytes xs → length xs ≡ 10 → xs ≡ entry (getD xs 0 0) (getD xs 1 0) (field 2 4 xs) (field 6 4 xs)
+unfolding entry
+entry-back [] b e = absurd (omega arith)
+entry-back (x ∷ []) b e = absurd (omega arith)
+entry-back (x ∷ y ∷ rest) b e =
+    let xs = x ∷ y ∷ rest in
+    let offset = bytes 4 (field 2 4 xs) in
+    let len = bytes 4 (field 6 4 xs) in
+    let first = stands-join xs 0 (x ∷ y ∷ []) offset 2 refl refl (stands-field xs 2 4 (field 2 4 xs) b (omega arith) refl) in
+    stands-whole xs (entry x y (field 2 4 xs) (field 6 4 xs)) (e ∙ sym (length-entry x y (field 2 4 xs) (field 6 4 xs)))
+    (stands-join xs 0 (x ∷ y ∷ offset) len 6 (omega (arith, length-bytes 4 (field 2 4 xs))) first (stands-field xs 6 4 (field 6 4 xs) b (omega arith) refl))
+
+-- ---- the places of the bodies
+
+-- they lie within the first four gigabytes
+pub body-place : (C : Code) (L S i : ℕ) → C .k ≤ 16 → C .m ≤ 16 → L ≤ 65536 → i ≤ disks C → bodyAt C L S i < 256 ^ 4
+unfolding bodyAt bodiesAt entryCount cardLength disks
+body-place C L S i hk hm hL hi =
+    let c = count i (λ d. not (has S d)) in
+    let few : c ≤ 32 = omega (arith, count-le i (λ d. not (has S d))) in
+    let a : L * c ≤ 65536 * c = mul-le-mul-right c hL in
+    omega arith
+
+-- and the body of a disk that is not lost does not lie past the end
+pub body-inside : (C : Code) (L S i : ℕ) → i < disks C → (T (has S i) → ⊥) → bodyAt C L S i + L ≤ recordLength C L S
+unfolding recordLength bodyAt
+body-inside C L S i l f =
+    let p : ℕ → Bool = λ d. not (has S d) in
+    let more : suc (count i p) ≤ count (disks C) p = count-below (disks C) i p l (not-in (has S i) f) in
+    let a : L * suc (count i p) ≤ L * count (disks C) p = mul-le-mul-left L more in
+    let e : L * suc (count i p) ≡ L * count i p + L = omega arith in
+    omega arith
