@@ -33,6 +33,27 @@ static void by_hand(void)
     expect_file((const uint8_t *)record, 58, 3, 0);
 }
 
+/* ---- null pointers where the length is 0: each is refused, and nothing is written */
+
+static void null_pointers(void)
+{
+    struct writing w = {.card = C1, .card_len = 8, .strip_len = 1, .stripe_len = 7, .out_len = 105};
+    struct lent_to_reader read;
+    struct lent_to_body body;
+    begin("null pointers");
+    name_file(NULL, 0, 0);
+    same_answer(compare_read(NULL, 0, &read), 13);
+    same_answer(compare_body(NULL, 0, 0, &body), 13);
+    input.call = WRITER;
+    input.writing = &w;
+    memset(arena, 0xa5, 105);
+    memset(expected, 0xa5, 105);
+    counted(bridgecrumb_record_write(NULL, 0, 1, 0, stripe, 7, arena, 105), 1);
+    counted(bridgecrumb_record_write(w.card, 8, 1, 0, NULL, 0, arena, 105), 7);
+    counted(bridgecrumb_record_write(w.card, 8, 1, 0, stripe, 7, NULL, 0), 16);
+    same_bytes("output", arena, expected, 0, 105);
+}
+
 /* ---- good records: written, read back, each strip where it is told */
 
 static void expect_number(const char *what, uint64_t told, uint64_t wanted)
@@ -212,6 +233,7 @@ int main(void)
 {
     open_rooms();
     by_hand();
+    null_pointers();
     all_writer_refusals();
     all_faults();
     all_damages();
