@@ -45,13 +45,13 @@ static struct fenced fenced_room(size_t bytes)
     return (struct fenced){start + page + room, room};
 }
 
-static void release_room(const struct fenced *fenced)
+static inline void release_room(const struct fenced *fenced)
 {
     munmap(fenced->end - fenced->room - whole_pages(1), fenced->room + 2 * whole_pages(1));
 }
 
 /* a copy of the bytes that ends at the fence */
-static uint8_t *lend(const struct fenced *fenced, const uint8_t *bytes, size_t count)
+static inline uint8_t *lend(const struct fenced *fenced, const uint8_t *bytes, size_t count)
 {
     if (count > fenced->room) {
         fprintf(stderr, "fence: %zu bytes don't go into %zu\n", count, fenced->room);
@@ -61,7 +61,7 @@ static uint8_t *lend(const struct fenced *fenced, const uint8_t *bytes, size_t c
 }
 
 /* `touched` is called where a closed page is touched, and ends the program */
-static void watch_fences(void (*touched)(int))
+static inline void watch_fences(void (*touched)(int))
 {
     struct sigaction action;
     memset(&action, 0, sizeof action);
