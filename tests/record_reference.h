@@ -95,7 +95,7 @@ static size_t put_contents(uint8_t *file, const uint8_t *card, size_t strip_len,
     return cards_place + card_len;
 }
 
-static uint64_t reference_write(const uint8_t *card, size_t card_len, size_t strip_len, uint32_t lost, const uint8_t *stripe, size_t stripe_len,
+static inline uint64_t reference_write(const uint8_t *card, size_t card_len, size_t strip_len, uint32_t lost, const uint8_t *stripe, size_t stripe_len,
                                 uint8_t *out, size_t out_len)
 {
     uint64_t refusal = card_refusal(card, card_len);
@@ -167,7 +167,7 @@ static uint64_t record_refusal(const uint8_t *file, size_t file_len, struct told
     return file_len == at ? 0 : refused(15, 0);
 }
 
-static uint64_t reference_read(const uint8_t *file, size_t file_len, size_t fields[4], uint16_t columns[16])
+static inline uint64_t reference_read(const uint8_t *file, size_t file_len, size_t fields[4], uint16_t columns[16])
 {
     struct told told;
     uint64_t refusal = record_refusal(file, file_len, &told);
@@ -182,7 +182,7 @@ static uint64_t reference_read(const uint8_t *file, size_t file_len, size_t fiel
     return 0;
 }
 
-static uint64_t reference_body(const uint8_t *file, size_t file_len, size_t disk, size_t place[2])
+static inline uint64_t reference_body(const uint8_t *file, size_t file_len, size_t disk, size_t place[2])
 {
     struct told told;
     uint64_t refusal = record_refusal(file, file_len, &told);
