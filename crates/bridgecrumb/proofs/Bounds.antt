@@ -1,4 +1,4 @@
--- The value that a report names is below 65536: a column's number, a yes or no, and the count of a list.
+-- The value that a report names is below 2 ^ 32: a column's number, a yes or no, and the count of a list.
 -- Assumes nothing.
 use mathlib.Core.Path.{_≡_, refl, ap}
 use mathlib.Core.Bool.{Bool, true, false, not, false≢true}
@@ -20,8 +20,9 @@ use Rattle.flat.specs.Strips.{lengthOk}
 use Rattle.flat.specs.Erasures.{fatal, erasures}
 use Rattle.flat.specs.Equations.{equations}
 use Rattle.flat.specs.Rebuilding.{agreeing}
+use Rattle.flat.specs.Alike.{alike}
 use Rattle.flat.specs.Spans.{rows, checks, selectors, erasuresByWord, equationsByParities}
-use Rattle.flat.specs.Faults.{Report, accepted, refused, yesNo, unlessRefused, codeReport, cardReport, withCard, encodeReport, verdictReport, listReport, erasuresReport, equationsReport, survivorsReport, rebuildReport}
+use Rattle.flat.specs.Faults.{Report, accepted, refused, yesNo, unlessRefused, codeReport, cardReport, withCard, cardWriteReport, alikeReport, encodeReport, verdictReport, listReport, erasuresReport, equationsReport, survivorsReport, rebuildReport}
 use Rattle.flat.proofs.Rows.{rows-length, checks-length}
 use Rattle.flat.proofs.Cards.{count-in}
 use Rattle.flat.proofs.ErasuresListed.{erasures-enumerated}
@@ -115,11 +116,11 @@ equations-length C d l =
 
 -- ---- the values of reports
 
-pick : (t : Bool) (r s : Report) → (t ≡ true → value r < 65536) → (t ≡ false → value s < 65536) → value (if t then r else s) < 65536
+pick : (t : Bool) (r s : Report) → (t ≡ true → value r < 4294967296) → (t ≡ false → value s < 4294967296) → value (if t then r else s) < 4294967296
 pick true r s f g = f refl
 pick false r s f g = g refl
 
-code-value : (C : Code) (sized : Bool) (next : Report) → (countOk (C .k) ≡ true → value next < 65536) → value (codeReport C sized next) < 65536
+code-value : (C : Code) (sized : Bool) (next : Report) → (countOk (C .k) ≡ true → value next < 4294967296) → value (codeReport C sized next) < 4294967296
 unfolding codeReport
 code-value C sized next h =
     pick (not (countOk (C .k))) _ _ (λ _. omega arith)
@@ -129,11 +130,17 @@ code-value C sized next h =
     (λ e. omega (arith, ltb-true (firstBad (C .k) (C .columns)) (C .m) e, count-in (C .m) (not-false (countOk (C .m)) em)))
     (λ _. h (not-false (countOk (C .k)) ek)))))
 
-card-value : (card : List ℕ) → value (cardReport card) < 65536
+pub card-value : (card : List ℕ) → value (cardReport card) < 4294967296
 unfolding cardReport
 card-value card =
     pick (ltb (length card) 2) _ _ (λ _. omega arith)
     (λ _. code-value (codeOf card) (eqb (length card) (cardLength (codeOf card .m))) (accepted (codeOf card .k ∷ codeOf card .m ∷ [])) (λ e. omega (arith, count-in (codeOf card .k) e)))
+
+pub card-write-value : (C : Code) (n : ℕ) → value (cardWriteReport C n) < 4294967296
+unfolding cardWriteReport
+card-write-value C n =
+    code-value C (eqb (length (C .columns)) (C .m)) (if not (eqb n (cardLength (C .m))) then refused 7 [] else accepted [])
+    (λ _. pick (not (eqb n (cardLength (C .m)))) _ _ (λ _. omega arith) (λ _. omega arith))
 
 -- an accepted card has at most 16 data disks and 16 parity disks
 accepted-small : (card : List ℕ) → eqb (cardReport card .number) 0 ≡ true → (codeOf card .k ≤ 16) × (codeOf card .m ≤ 16)
@@ -149,62 +156,69 @@ accepted-small card e = go (ltb (length card) 2) (not (countOk (codeOf card .k))
     go false false false p q rest e = (count-in (codeOf card .k) (not-false _ p) .1, count-in (codeOf card .m) (not-false _ q) .1)
 
 with-value : (card : List ℕ) (answer : Code → Report)
-    → ((codeOf card .k ≤ 16) × (codeOf card .m ≤ 16) → value (answer (codeOf card)) < 65536)
-    → value (withCard card answer) < 65536
+    → ((codeOf card .k ≤ 16) × (codeOf card .m ≤ 16) → value (answer (codeOf card)) < 4294967296)
+    → value (withCard card answer) < 4294967296
 unfolding withCard unlessRefused
 with-value card answer h = pick (eqb (cardReport card .number) 0) _ _ (λ e. h (accepted-small card e)) (λ _. card-value card)
 
-pub encode-value : (card : List ℕ) (L n : ℕ) → value (encodeReport card L n) < 65536
+pub encode-value : (card : List ℕ) (L n : ℕ) → value (encodeReport card L n) < 4294967296
 unfolding encodeReport
 encode-value card L n =
     with-value card (λ C. if not (lengthOk L) then refused 6 [] else if not (eqb n (disks C * L)) then refused 7 [] else accepted [])
     (λ _. pick (not (lengthOk L)) _ _ (λ _. omega arith) (λ _. pick (not (eqb n (disks (codeOf card) * L))) _ _ (λ _. omega arith) (λ _. omega arith)))
 
-verdict-answer : (C : Code) (S : ℕ) → value (if not (setOk C S) then refused 8 [] else accepted (yesNo (fatal C S) ∷ [])) < 65536
+-- yes is 1, and no is 0
+yes-no : (b : Bool) → yesNo b < 4294967296
 unfolding yesNo
-verdict-answer C S =
-    pick (not (setOk C S)) (refused 8 []) (accepted (yesNo (fatal C S) ∷ [])) (λ _. omega arith) (λ _. go (fatal C S))
-  where
-    go : (t : Bool) → (if t then 1 else 0) < 65536
-    go true = omega arith
-    go false = omega arith
+yes-no true = omega arith
+yes-no false = omega arith
 
-pub verdict-value : (card : List ℕ) (S : ℕ) → value (verdictReport card S) < 65536
+verdict-answer : (C : Code) (S : ℕ) → value (if not (setOk C S) then refused 8 [] else accepted (yesNo (fatal C S) ∷ [])) < 4294967296
+verdict-answer C S =
+    pick (not (setOk C S)) (refused 8 []) (accepted (yesNo (fatal C S) ∷ [])) (λ _. omega arith) (λ _. yes-no (fatal C S))
+
+pub verdict-value : (card : List ℕ) (S : ℕ) → value (verdictReport card S) < 4294967296
 unfolding verdictReport
 verdict-value card S =
     with-value card (λ C. if not (setOk C S) then refused 8 [] else accepted (yesNo (fatal C S) ∷ [])) (λ _. verdict-answer (codeOf card) S)
 
-list-answer : (list : List ℕ) (n : ℕ) → length list < 65536 → value (listReport list n) < 65536
+pub alike-value : (first second : List ℕ) → value (alikeReport first second) < 4294967296
+unfolding alikeReport
+alike-value first second =
+    with-value first (λ A. withCard second (λ B. accepted (yesNo (alike A B) ∷ [])))
+    (λ _. with-value second (λ B. accepted (yesNo (alike (codeOf first) B) ∷ [])) (λ _. yes-no (alike (codeOf first) (codeOf second))))
+
+list-answer : (list : List ℕ) (n : ℕ) → length list < 4294967296 → value (listReport list n) < 4294967296
 unfolding listReport
 list-answer list n h =
     pick (ltb n (length list)) (refused 10 (length list ∷ [])) (accepted (length list ∷ [])) (λ _. h) (λ _. h)
 
-pub erasures-value : (card : List ℕ) (n : ℕ) → value (erasuresReport card n) < 65536
+pub erasures-value : (card : List ℕ) (n : ℕ) → value (erasuresReport card n) < 4294967296
 unfolding erasuresReport
 erasures-value card n =
     with-value card (λ C. listReport (erasures C) n)
     (λ h. list-answer (erasures (codeOf card)) n
     (omega (arith, erasures-length (codeOf card), pow-mono {i = codeOf card .k} {j = 16} (h .0))))
 
-equations-answer : (C : Code) (d n : ℕ) → C .m ≤ 16 → value (if not (ltb d (disks C)) then refused 9 [] else listReport (equations C d) n) < 65536
+equations-answer : (C : Code) (d n : ℕ) → C .m ≤ 16 → value (if not (ltb d (disks C)) then refused 9 [] else listReport (equations C d) n) < 4294967296
 equations-answer C d n h =
     pick (not (ltb d (disks C))) (refused 9 []) (listReport (equations C d) n) (λ _. omega arith)
     (λ e. list-answer (equations C d) n
     (omega (arith, equations-length C d (ltb-true d (disks C) (not-false (ltb d (disks C)) e)), pow-mono {i = C .m} {j = 16} h)))
 
-pub equations-value : (card : List ℕ) (d n : ℕ) → value (equationsReport card d n) < 65536
+pub equations-value : (card : List ℕ) (d n : ℕ) → value (equationsReport card d n) < 4294967296
 unfolding equationsReport
 equations-value card d n =
     with-value card (λ C. if not (ltb d (disks C)) then refused 9 [] else listReport (equations C d) n) (λ h. equations-answer (codeOf card) d n (h .1))
 
 -- ---- the rebuilder names how many of at most 32 disks were lost
 
-survivors-answer : (S : ℕ) (contents : List (List ℕ)) → size S < 65536 → value (survivorsReport S contents) < 65536
+survivors-answer : (S : ℕ) (contents : List (List ℕ)) → size S < 4294967296 → value (survivorsReport S contents) < 4294967296
 unfolding survivorsReport
 survivors-answer S [] h = omega arith
 survivors-answer S (c ∷ cs) h = h
 
-pub rebuild-value : (card : List ℕ) (L S : ℕ) (stripe : List ℕ) → value (rebuildReport card L S stripe) < 65536
+pub rebuild-value : (card : List ℕ) (L S : ℕ) (stripe : List ℕ) → value (rebuildReport card L S stripe) < 4294967296
 unfolding rebuildReport setOk disks
 rebuild-value card L S stripe =
     with-value card

@@ -2,7 +2,7 @@
 -- Assumes nothing.
 use Prim.Native.Nat.{ℕ, _+_, _*_}
 use lib.ListN.{getD}
-use Rattle.flat.specs.Faults.{Report}
+use Rattle.flat.specs.Faults.{Report, unlessRefused}
 
 -- the value that the report names, 0 where it names none
 abbrev pub value : Report → ℕ
@@ -10,3 +10,8 @@ value r = getD (r .values) 0 0
 
 abbrev pub coded : Report → ℕ
 coded r = r .number + 256 * value r
+
+-- the same where the values of an accepted call go into arrays
+unfoldable pub codedFault : Report → ℕ
+unfolding unlessRefused
+codedFault r = unlessRefused r 0 (coded r)

@@ -1,9 +1,10 @@
-// The static library for C and Rust: the encoder, the verdict call, the lister, the equation call and the
-// rebuilder, exported.
+// The static library for C and Rust: document 01's calls, exported. Here stand those on sets and stripes,
+// in `cards` and `records` the others.
 //
 // An answer is one number: the report's number, 0 where the call is accepted, and 256 times the value
-// that the report names, if it names one. A slice is passed as a pointer and a count. Every byte
-// string, set and slice is a legal argument.
+// that the report names, if it names one. Where an accepted call names several, they go into arrays that
+// the caller lends. A slice is passed as a pointer and a count. Every byte string, set and slice is a
+// legal argument.
 ghost use mathlib.Core.Path.{_≡_};
 ghost use Prim.Native.Nat.{_+_, _*_, _<_};
 ghost use lib.ListN.{length};
@@ -21,17 +22,19 @@ use erasures::Listed;
 use erasures::SetVerdict;
 use rebuilder::Rebuilt;
 
+mod cards;
+
 // A report's number and its value as one number.
-fn joined(number: u64, value: usize) -> u64
-    requires { ⌜ (number < 256) × (value < 65536) ⌝ }
+pub(crate) fn joined(number: u64, value: usize) -> u64
+    requires { ⌜ (number < 256) × (value < 4294967296) ⌝ }
     ensures { λ r. ⌜ r ≡ number + 256 * value ⌝ }
 {
     number + 256 * (value as u64)
 }
 
 // A card's fault.
-fn fault_code(fault: CardFault) -> u64
-    requires { ⌜ value (faultReport fault) < 65536 ⌝ }
+pub(crate) fn fault_code(fault: CardFault) -> u64
+    requires { ⌜ value (faultReport fault) < 4294967296 ⌝ }
     ensures { λ r. ⌜ r ≡ coded (faultReport fault) ⌝ }
 {
     match fault {
@@ -45,7 +48,7 @@ fn fault_code(fault: CardFault) -> u64
 
 // The encoder's answer.
 fn encoded_code(encoded: Encoded) -> u64
-    requires { ⌜ value (encodedReport encoded) < 65536 ⌝ }
+    requires { ⌜ value (encodedReport encoded) < 4294967296 ⌝ }
     ensures { λ r. ⌜ r ≡ coded (encodedReport encoded) ⌝ }
 {
     match encoded {
@@ -58,7 +61,7 @@ fn encoded_code(encoded: Encoded) -> u64
 
 // The verdict call's answer.
 fn verdict_code(verdict: SetVerdict) -> u64
-    requires { ⌜ value (setReport verdict) < 65536 ⌝ }
+    requires { ⌜ value (setReport verdict) < 4294967296 ⌝ }
     ensures { λ r. ⌜ r ≡ coded (setReport verdict) ⌝ }
 {
     match verdict {
@@ -71,7 +74,7 @@ fn verdict_code(verdict: SetVerdict) -> u64
 
 // The equation call's answer.
 fn told_code(told: Told) -> u64
-    requires { ⌜ value (toldReport told) < 65536 ⌝ }
+    requires { ⌜ value (toldReport told) < 4294967296 ⌝ }
     ensures { λ r. ⌜ r ≡ coded (toldReport told) ⌝ }
 {
     match told {
@@ -84,7 +87,7 @@ fn told_code(told: Told) -> u64
 
 // The rebuilder's answer.
 fn rebuilt_code(rebuilt: Rebuilt) -> u64
-    requires { ⌜ value (rebuiltReport rebuilt) < 65536 ⌝ }
+    requires { ⌜ value (rebuiltReport rebuilt) < 4294967296 ⌝ }
     ensures { λ r. ⌜ r ≡ coded (rebuiltReport rebuilt) ⌝ }
 {
     match rebuilt {

@@ -17,6 +17,7 @@ use card::CardFault;
 
 mod compare;
 
+pub use compare::Likeness;
 pub use compare::alike;
 
 // The verdict call's answer: fatal or not, the card's fault, or a set with a disk that the code lacks.

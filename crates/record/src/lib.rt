@@ -13,6 +13,7 @@ pub use bodies::body;
 pub use bodies::body_check;
 pub use bodies::body_place;
 pub use reader::RecordCheck;
+pub use reader::RecordFault;
 pub use reader::RecordRead;
 pub use reader::check;
 pub use reader::read;

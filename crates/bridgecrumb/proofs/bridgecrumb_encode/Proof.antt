@@ -16,7 +16,7 @@ encode-requires c κs = search needs
 encoded-code-requires : tie.Need-encoded-code-requires
 encoded-code-requires c κs =
     let a = c .before .before .before .before .before .before .args in
-    subst (λ (r : Report). value r < 65536) (sym (c .before .before .encode .ensures .0)) (encode-value (now (a .card)) (a .l) (length (now (a .stripe))))
+    subst (λ (r : Report). value r < 4294967296) (sym (c .before .before .encode .ensures .0)) (encode-value (now (a .card)) (a .l) (length (now (a .stripe))))
 
 same-length : tie.Need-same-length
 same-length c = search needs

@@ -16,7 +16,7 @@ list-requires c κs = search needs
 told-code-requires : tie.Need-told-code-requires
 told-code-requires c κs =
     let a = c .before .before .before .before .before .before .args in
-    subst (λ (r : Report). value r < 65536) (sym (c .before .before .list .ensures .0)) (equations-value (now (a .card)) (a .disk) (length (now (a .out))))
+    subst (λ (r : Report). value r < 4294967296) (sym (c .before .before .list .ensures .0)) (equations-value (now (a .card)) (a .disk) (length (now (a .out))))
 
 same-length : tie.Need-same-length
 same-length c = search needs

@@ -40,8 +40,8 @@ short : (c : tie.After-answer3) → refused 10 (c .answer3 .given .0 .0 ∷ []) 
 short c = ap listedReport (sym (c .answer3 .given .1)) ∙ c .before .before .before .before .before .list .ensures .0
 
 -- its value is small
-small : (c : tie.After-counts) (r : Report) → r ≡ reportAt c → value r < 65536
-small c r e = subst (λ (x : Report). value x < 65536) (sym e) (erasures-value (now (start c .args .card)) (length (now (start c .args .out))))
+small : (c : tie.After-counts) (r : Report) → r ≡ reportAt c → value r < 4294967296
+small c r e = subst (λ (x : Report). value x < 4294967296) (sym e) (erasures-value (now (start c .args .card)) (length (now (start c .args .out))))
 
 joined-requires : tie.Need-joined-requires
 joined-requires c κs = (omega arith, small (c .before .before .before) _ (counted (c .before)))

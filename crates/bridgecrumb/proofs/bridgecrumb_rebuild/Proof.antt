@@ -15,7 +15,7 @@ rebuild-requires c κs = search needs
 rebuilt-code-requires : tie.Need-rebuilt-code-requires
 rebuilt-code-requires c κs =
     let a = c .before .before .before .before .before .before .args in
-    subst (λ (r : Report). value r < 65536) (sym (c .before .before .rebuild .ensures .0)) (rebuild-value (now (a .card)) (a .l) (a .lost) (now (a .stripe)))
+    subst (λ (r : Report). value r < 4294967296) (sym (c .before .before .rebuild .ensures .0)) (rebuild-value (now (a .card)) (a .l) (a .lost) (now (a .stripe)))
 
 same-length : tie.Need-same-length
 same-length c = search needs

@@ -15,7 +15,7 @@ verdict-requires c κs = search needs
 verdict-code-requires : tie.Need-verdict-code-requires
 verdict-code-requires c κs =
     let a = c .before .before .args in
-    subst (λ (r : Report). value r < 65536) (sym (c .verdict .ensures)) (verdict-value (now (a .card)) (a .set))
+    subst (λ (r : Report). value r < 4294967296) (sym (c .verdict .ensures)) (verdict-value (now (a .card)) (a .set))
 
 returns : tie.Need-returns
 returns c = c .verdict-code .ensures ∙ ap coded (c .before .verdict .ensures)

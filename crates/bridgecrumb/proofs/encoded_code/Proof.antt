@@ -16,7 +16,7 @@ enum-known-encoded c = search needs
 
 fault-code-requires : tie.Need-fault-code-requires
 fault-code-requires c κs =
-    subst (λ (e : Encoded). value (encodedReport e) < 65536) (c .before .encoded .given .1) (c .before .before .before .pre)
+    subst (λ (e : Encoded). value (encodedReport e) < 4294967296) (c .before .encoded .given .1) (c .before .before .before .pre)
 
 enum-told-2 : tie.Need-enum-told-2
 enum-told-2 c = search needs

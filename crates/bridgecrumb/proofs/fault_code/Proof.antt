@@ -27,7 +27,7 @@ enum-known-fault c = search needs
 joined-requires : tie.Need-joined-requires
 joined-requires c κs = (
   omega arith,
-  subst (λ (f : CardFault). value (faultReport f) < 65536) (c .before .fault .given .1) (c .before .before .before .pre),
+  subst (λ (f : CardFault). value (faultReport f) < 4294967296) (c .before .fault .given .1) (c .before .before .before .pre),
 )
 
 returns : tie.Need-returns

@@ -17,13 +17,13 @@ cast-joined c = search needs
 
 joined-requires : tie.Need-joined-requires
 joined-requires c κs =
-    (omega arith, subst (λ (r : Rebuilt). value (rebuiltReport r) < 65536) (c .before .rebuilt .given .1) (c .before .before .before .pre))
+    (omega arith, subst (λ (r : Rebuilt). value (rebuiltReport r) < 4294967296) (c .before .rebuilt .given .1) (c .before .before .before .pre))
 
 enum-known-rebuilt-2 : tie.Need-enum-known-rebuilt-2
 enum-known-rebuilt-2 c = search needs
 
 fault-code-requires : tie.Need-fault-code-requires
-fault-code-requires c κs = subst (λ (r : Rebuilt). value (rebuiltReport r) < 65536) (c .before .rebuilt2 .given .1) (c .before .before .before .pre)
+fault-code-requires c κs = subst (λ (r : Rebuilt). value (rebuiltReport r) < 4294967296) (c .before .rebuilt2 .given .1) (c .before .before .before .pre)
 
 enum-told : tie.Need-enum-told
 enum-told c = search needs

@@ -14,13 +14,13 @@ enum-known-told c = search needs
 
 joined-requires : tie.Need-joined-requires
 joined-requires c κs =
-    (omega arith, subst (λ (t : Told). value (toldReport t) < 65536) (c .before .told .given .1) (c .before .before .before .pre))
+    (omega arith, subst (λ (t : Told). value (toldReport t) < 4294967296) (c .before .told .given .1) (c .before .before .before .pre))
 
 enum-known-told-2 : tie.Need-enum-known-told-2
 enum-known-told-2 c = search needs
 
 fault-code-requires : tie.Need-fault-code-requires
-fault-code-requires c κs = subst (λ (t : Told). value (toldReport t) < 65536) (c .before .told2 .given .1) (c .before .before .before .pre)
+fault-code-requires c κs = subst (λ (t : Told). value (toldReport t) < 4294967296) (c .before .told2 .given .1) (c .before .before .before .pre)
 
 enum-told : tie.Need-enum-told
 enum-told c = search needs
@@ -30,7 +30,7 @@ enum-known-told-3 c = search needs
 
 joined-requires-2 : tie.Need-joined-requires-2
 joined-requires-2 c κs =
-    (omega arith, subst (λ (t : Told). value (toldReport t) < 65536) (c .before .told3 .given .1) (c .before .before .before .pre))
+    (omega arith, subst (λ (t : Told). value (toldReport t) < 4294967296) (c .before .told3 .given .1) (c .before .before .before .pre))
 
 returns : tie.Need-returns
 returns c = c .joined .ensures ∙ ap (λ (t : Told). coded (toldReport t)) (sym (c .before .before .told .given .1))

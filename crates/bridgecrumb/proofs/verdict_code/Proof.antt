@@ -25,7 +25,7 @@ enum-known-verdict c = search needs
 
 fault-code-requires : tie.Need-fault-code-requires
 fault-code-requires c κs =
-    subst (λ (v : SetVerdict). value (verdictReport v) < 65536) (c .before .verdict .given .1) (c .before .before .before .pre)
+    subst (λ (v : SetVerdict). value (verdictReport v) < 4294967296) (c .before .verdict .given .1) (c .before .before .before .pre)
 
 enum-told-3 : tie.Need-enum-told-3
 enum-told-3 c = search needs

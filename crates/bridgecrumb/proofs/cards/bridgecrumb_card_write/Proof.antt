@@ -1,0 +1,32 @@
+-- `bridgecrumb::cards::bridgecrumb_card_write` meets its contract. Assumes nothing.
+use mathlib.Core.Path.{sym, ap, _∙_, subst}
+use Prim.Native.Nat.{_<_}
+use borrow.Author.Needs.{needs}
+use denote.Ref.{now}
+use lib.ListN.{length}
+use Rattle.flat.specs.Cards.{code}
+use Rattle.flat.specs.Faults.{Report}
+use Rattle.bridgecrumb.specs.Coded.{value, coded}
+use Rattle.bridgecrumb.proofs.Bounds.{card-write-value}
+use Rattle.bridgecrumb.proofs.cards.bridgecrumb_card_write.Statement.{statement}
+use Rattle.bridgecrumb.proofs.cards.bridgecrumb_card_write.Tie as tie
+
+write-requires : tie.Need-write-requires
+write-requires c κs = search needs
+
+written-code-requires : tie.Need-written-code-requires
+written-code-requires c κs =
+    let a = c .before .before .before .before .before .before .args in
+    subst (λ (r : Report). value r < 4294967296) (sym (c .before .before .write .ensures .0)) (card-write-value (code (a .k) (a .m) (now (a .columns))) (length (now (a .out))))
+
+same-length : tie.Need-same-length
+same-length c = search needs
+
+returns : tie.Need-returns
+returns c =
+    let w = c .before .before .before .write in
+    (c .written-code .ensures ∙ ap coded (w .ensures .0), w .ensures .1)
+
+pub bridgecrumb-card-write-spec : {M : Type 1} → statement M
+bridgecrumb-card-write-spec =
+    tie.close (tie.spec write-requires written-code-requires same-length returns)

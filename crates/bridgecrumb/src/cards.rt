@@ -1,0 +1,80 @@
+// The calls on cards alone: the card reader, the card writer, and two cards alike.
+ghost use mathlib.Core.Path.{_≡_};
+ghost use Prim.Native.Nat.{_<_};
+ghost use lib.ListN.{length};
+ghost use Rattle.flat.specs.Cards.{code};
+ghost use Rattle.flat.specs.Faults.{unlessRefused, cardReport, cardColumns, cardWriteReport, cardWriteBuffer, alikeReport};
+ghost use Rattle.card.specs.Reports.{writtenReport};
+ghost use Rattle.erasures.specs.Reports.{alikeReport as likenessReport};
+ghost use Rattle.bridgecrumb.specs.Coded.{value, coded, codedFault};
+use crate::fault_code;
+use crate::joined;
+use card::CardCheck;
+use card::CardWritten;
+use erasures::Likeness;
+
+// The card writer's answer.
+fn written_code(written: CardWritten) -> u64
+    requires { ⌜ value (writtenReport written) < 4294967296 ⌝ }
+    ensures { λ r. ⌜ r ≡ coded (writtenReport written) ⌝ }
+{
+    match written {
+        CardWritten::Done => 0,
+        CardWritten::Refused(fault) => fault_code(fault),
+        CardWritten::Buffer => 7,
+    }
+}
+
+// The answer to whether two cards are alike.
+fn likeness_code(likeness: Likeness) -> u64
+    requires { ⌜ value (likenessReport likeness) < 4294967296 ⌝ }
+    ensures { λ r. ⌜ r ≡ coded (likenessReport likeness) ⌝ }
+{
+    match likeness {
+        Likeness::Alike => joined(0, 1),
+        Likeness::Different => joined(0, 0),
+        Likeness::Card(fault) => fault_code(fault),
+    }
+}
+
+// The card reader: k and m, and the columns, then zeros. A refused call writes nothing.
+#[no_mangle]
+pub extern "C" fn bridgecrumb_card_read(
+    card: &[u8],
+    counts: &mut [usize; 2],
+    columns: &mut [u16; 16],
+) -> u64
+    ensures { λ r. ⌜ r ≡ codedFault (cardReport (now (card .entry))) ⌝ }
+    ensures { λ _. ⌜ now (counts .exit) ≡ unlessRefused (cardReport (now (card .entry))) (cardReport (now (card .entry)) .values) (now (counts .entry)) ⌝ }
+    ensures { λ _. ⌜ now (columns .exit) ≡ unlessRefused (cardReport (now (card .entry))) (cardColumns (now (card .entry))) (now (columns .entry)) ⌝ }
+{
+    let read = card::read(card);
+    let check = read.check;
+    let found = read.columns;
+    match check {
+        CardCheck::Good { k, m } => {
+            *counts = [k, m];
+            *columns = found;
+            0
+        }
+        CardCheck::Bad(fault) => fault_code(fault),
+    }
+}
+
+// The card writer: the card of k, m and the columns into a buffer of exactly its length. A refused call
+// writes nothing.
+#[no_mangle]
+pub extern "C" fn bridgecrumb_card_write(k: usize, m: usize, columns: &[u16], out: &mut [u8]) -> u64
+    ensures { λ r. ⌜ r ≡ coded (cardWriteReport (code k m (now (columns .entry))) (length (now (out .entry)))) ⌝ }
+    ensures { λ _. ⌜ now (out .exit) ≡ cardWriteBuffer (code k m (now (columns .entry))) (now (out .entry)) ⌝ }
+{
+    written_code(card::write(k, m, columns, out))
+}
+
+// Whether two cards are alike. The first card's refusals come before the second's.
+#[no_mangle]
+pub extern "C" fn bridgecrumb_alike(first: &[u8], second: &[u8]) -> u64
+    ensures { λ r. ⌜ r ≡ coded (alikeReport (now (first .entry)) (now (second .entry))) ⌝ }
+{
+    likeness_code(erasures::alike(first, second))
+}

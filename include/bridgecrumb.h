@@ -1,0 +1,107 @@
+/* The calls of libbridgecrumb.a, for C and C++. `rt staticlib bridgecrumb` writes the archive.
+ *
+ * An answer is one number: document 01's number of the refusal, 0 where the call is accepted, plus 256
+ * times the one value that is named for it (a column, a count, a length). BRIDGECRUMB_NUMBER and
+ * BRIDGECRUMB_VALUE take it apart. Further values go into arrays that the caller lends.
+ *
+ * A refused call changes no lent byte. Every byte string, number, set and length is a legal argument. The
+ * caller guarantees three things: a pointer reaches as many elements as the length beside it says (it may
+ * be null where that is 0), no buffer that is written overlaps another that is lent, and no other thread
+ * writes a lent buffer meanwhile. The calls keep no state.
+ *
+ * A set of disks is a 32-bit number, bit i for disk i. A stripe is the strips of all disks, disk i's at
+ * byte i * strip_len. size_t has 64 bits.
+ */
+#ifndef BRIDGECRUMB_H
+#define BRIDGECRUMB_H
+
+#include <stddef.h>
+#include <stdint.h>
+
+#ifdef __cplusplus
+extern "C" {
+#endif
+
+#define BRIDGECRUMB_NUMBER(answer) ((unsigned)((answer) & 255))
+#define BRIDGECRUMB_VALUE(answer) ((answer) >> 8)
+
+enum bridgecrumb_number {
+    BRIDGECRUMB_ACCEPTED = 0,
+    BRIDGECRUMB_CARD_SHORT = 1,    /* the card is shorter than 2 bytes */
+    BRIDGECRUMB_DATA_COUNT = 2,    /* k outside 1 to 16 */
+    BRIDGECRUMB_PARITY_COUNT = 3,  /* m outside 1 to 16 */
+    BRIDGECRUMB_CARD_LENGTH = 4,   /* the card's length is not 2 + 2m */
+    BRIDGECRUMB_COLUMN = 5,        /* a column 0 or at least 2^k; the value is the first such */
+    BRIDGECRUMB_STRIP_LENGTH = 6,  /* a strip length outside 1 to 65,536 */
+    BRIDGECRUMB_BUFFER_LENGTH = 7, /* a stripe or card buffer of another length than stated */
+    BRIDGECRUMB_OUTSIDE_SET = 8,   /* a lost set with a disk that the code lacks */
+    BRIDGECRUMB_NO_DISK = 9,       /* a disk that the code lacks */
+    BRIDGECRUMB_LIST_SHORT = 10,   /* a list longer than the lent slice; the value is the count needed */
+    BRIDGECRUMB_FATAL = 11,        /* the loss of the set is fatal */
+    BRIDGECRUMB_INCONSISTENT = 12, /* survivors that no encoded stripe has */
+    BRIDGECRUMB_MARK = 13,         /* a file under 10 bytes, or another mark */
+    BRIDGECRUMB_CONTENTS = 14,     /* contents that are not those of a record */
+    BRIDGECRUMB_FILE_LENGTH = 15,  /* a file of another length than its record */
+    BRIDGECRUMB_NO_ROOM = 16       /* an output shorter than the record, or the body of a lost disk */
+};
+
+/* Takes a card. Answers k and m in `counts`, and the m columns, then zeros, in `columns`.
+ * No value where it is accepted.
+ * Refuses 1 to 5. */
+uint64_t bridgecrumb_card_read(const uint8_t *card, size_t card_len, size_t counts[2], uint16_t columns[16]);
+
+/* Takes k, m, a list of m columns and a buffer of exactly 2 + 2m bytes.
+ * Writes the card into the buffer; no value.
+ * Refuses 2 to 5 (4: a list that has not m columns), then 7 (a buffer of another length). */
+uint64_t bridgecrumb_card_write(size_t k, size_t m, const uint16_t *columns, size_t columns_len, uint8_t *out, size_t out_len);
+
+/* Takes two cards.
+ * The value is 1 where their k, m and vectors are equal, and 0 where they are not.
+ * Refuses 1 to 5, the first card's before the second's. */
+uint64_t bridgecrumb_alike(const uint8_t *first, size_t first_len, const uint8_t *second, size_t second_len);
+
+/* Takes a card and a stripe.
+ * Writes each parity strip: byte by byte the XOR of the strips of its data disks; no value.
+ * Refuses 1 to 5, then 6, then 7 (a stripe of another length than strip_len for each disk). */
+uint64_t bridgecrumb_encode(const uint8_t *card, size_t card_len, size_t strip_len, uint8_t *stripe, size_t stripe_len);
+
+/* Takes a card and a set of disks.
+ * The value is 1 where the loss of the set is fatal, and 0 where it is not.
+ * Refuses 1 to 5, then 8. */
+uint64_t bridgecrumb_verdict(const uint8_t *card, size_t card_len, uint32_t set);
+
+/* Takes a card. Writes all minimal erasures into `out`, smaller size first, then smaller data part, and
+ * into vector[i - 1] how many hold i disks; the value is the count, and `out` past it keeps what it had.
+ * Refuses 1 to 5, then 10. */
+uint64_t bridgecrumb_list(const uint8_t *card, size_t card_len, uint32_t *out, size_t out_len, size_t vector[17]);
+
+/* Takes a card and a disk. Writes into `out` its equations with no smaller one inside, each a set of
+ * disks whose XOR is the disk, smaller size first, then smaller set number; the value is the count.
+ * Refuses 1 to 5, then 9, then 10. */
+uint64_t bridgecrumb_equations(const uint8_t *card, size_t card_len, size_t disk, uint32_t *out, size_t out_len);
+
+/* Takes a card, a set of lost disks and a stripe.
+ * Writes the lost strips, those that the survivors tell; the value is how many disks are lost.
+ * Refuses 1 to 5, then 6, 8, 7, 11, 12. */
+uint64_t bridgecrumb_rebuild(const uint8_t *card, size_t card_len, size_t strip_len, uint32_t lost, uint8_t *stripe, size_t stripe_len);
+
+/* Takes a card, a set of lost disks, a stripe and an output.
+ * Writes the record at the output's front and leaves the rest; the value is the record's length.
+ * Refuses 1 to 5, then 6, 8, 7, 16. */
+uint64_t bridgecrumb_record_write(const uint8_t *card, size_t card_len, size_t strip_len, uint32_t lost, const uint8_t *stripe, size_t stripe_len, uint8_t *out, size_t out_len);
+
+/* Takes a record file. Answers k, m, the strips' length and the lost set in `fields`, and the m columns,
+ * then zeros, in `columns`. No value where it is accepted.
+ * Refuses 13, 6, 14, the card's 1 to 5, 14 again (E and the strips' entries), 15. */
+uint64_t bridgecrumb_record_read(const uint8_t *file, size_t file_len, size_t fields[4], uint16_t columns[16]);
+
+/* Takes a record file and a disk.
+ * Answers in `place` where the disk's strip starts in the file, and its length; no value.
+ * Refuses as the reader does, then 9, then 16 (a lost disk). */
+uint64_t bridgecrumb_record_body(const uint8_t *file, size_t file_len, size_t disk, size_t place[2]);
+
+#ifdef __cplusplus
+}
+#endif
+
+#endif
