@@ -37,6 +37,9 @@ module _ (c : tie.After-known-told2) where
   abbrev lostAt : ℕ
   lostAt = c .before .k .given .0 .1 .1 .1 .0
 
+abbrev diskAt : tie.After-known-told2 → ℕ
+diskAt c = c .before .before .before .before .before .args .disk
+
 known : (c : tie.After-known-told2) → GoodRecord (fileAt c) (kAt c) (mAt c) (lAt c) (lostAt c)
 known c = good _ _ _ _ _ (ap checkReport (sym (c .before .k .given .1)) ∙ c .before .before .before .check .ensures)
 
@@ -45,7 +48,7 @@ add-n c = let g = known c in omega (arith, g .k-in, g .m-in)
 
 returns : tie.Need-returns
 returns c =
-    let e = no-disk _ _ _ _ _ (known (c .before)) _ (omega arith) in
+    let e = no-disk _ _ _ _ _ (known (c .before)) (diskAt (c .before)) (omega arith) in
     (e, (nowhere _ _ _ _ e, omega arith))
 
 cast-has : tie.Need-cast-has
