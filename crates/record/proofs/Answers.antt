@@ -1,6 +1,6 @@
 -- What the reader answers, by what its tests and the card check found.
 -- Assumes nothing.
-use mathlib.Core.Path.{_≡_, refl, sym, _∙_}
+use mathlib.Core.Path.{_≡_, refl, sym, ap, _∙_}
 use mathlib.Core.Bool.{Bool, true, false, not, _&&_}
 use mathlib.Core.List.{List, [], _∷_}
 use Prim.Native.Nat.{ℕ, suc, _+_}
@@ -57,7 +57,8 @@ both : (a b : Bool) (r rest : Report) → (if not (a && b) then r else rest) ≡
 both true b r rest = refl
 both false b r rest = refl
 
-strips-code : (file : List ℕ) (k m : ℕ) (columns : List ℕ) → answer file (code k m columns) ≡ stripsReport file k m (entryCountIn file) (lengthIn file)
+strips-code : (file : List ℕ) (k m : ℕ) (columns : List ℕ)
+    → answer file (code k m columns) ≡ (if not (eqb (entryCountIn file) (k + m + 1)) then refused 14 [] else stripsReport file k m (lengthIn file))
 unfolding stripsReport stripEntriesOk entryCount disks lostIn recordLength stripEntry stripEntryFrom bodyAt bodyFrom stripsAt
 strips-code file k m columns =
     let n = k + m in
@@ -80,30 +81,33 @@ module _ (file : List ℕ) (p : Listed file) where
   pub bad-body : (f : CardFault) → of-card.checkReport (card.Bad f) ≡ cardReport (bodyIn file 0) → faultReport f ≡ recordReport file
   bad-body f e = sym (carded ∙ bad-card (bodyIn file 0) f (answer file) e)
 
-  pub good-body : (k m : ℕ) → GoodCard (bodyIn file 0) k m → stripsReport file k m (entryCountIn file) (lengthIn file) ≡ recordReport file
-  good-body k m g = sym (carded ∙ good-with (bodyIn file 0) k m (answer file) g ∙ strips-code file k m (columnsIn m (drop 2 (bodyIn file 0))))
+  module _ (k m : ℕ) (g : GoodCard (bodyIn file 0) k m) where
+    counted : recordReport file ≡ (if not (eqb (entryCountIn file) (k + m + 1)) then refused 14 [] else stripsReport file k m (lengthIn file))
+    counted = carded ∙ good-with (bodyIn file 0) k m (answer file) g ∙ strips-code file k m (columnsIn m (drop 2 (bodyIn file 0)))
+
+    pub bad-count : (entryCountIn file ≡ k + m + 1 → ⊥) → refused 14 [] ≡ recordReport file
+    bad-count f = sym (counted ∙ simp (ne-eqb _ _ f))
+
+    pub good-count : entryCountIn file ≡ k + m + 1 → stripsReport file k m (lengthIn file) ≡ recordReport file
+    good-count e = sym (counted ∙ simp (eq-eqb _ _ e))
 
 -- ---- the strips
 
-module _ (file : List ℕ) (k m E L : ℕ) where
-  pub other-count : (E ≡ k + m + 1 → ⊥) → refused 14 [] ≡ stripsReport file k m E L
+module _ (file : List ℕ) (k m L start S : ℕ) (at : start ≡ stripsAt (k + m) m)
+    (lost : S ≡ setOf (k + m) (λ i. eqb (getD (entryIn file (suc i)) 0 0) 2)) where
+  strips-tests : (a b : Bool) → a ≡ every (k + m) (λ i. same (entryIn file (suc i)) (stripEntryFrom start L S i))
+      → eqb (length file) (bodyFrom start L S (k + m)) ≡ b
+      → stripsReport file k m L ≡ (if not a then refused 14 [] else if not b then refused 15 [] else accepted (k ∷ m ∷ L ∷ S ∷ []))
   unfolding stripsReport
-  other-count f = simp (ne-eqb _ _ f)
+  strips-tests a b p q = rw (p, sym q, lost, at)
 
-  module _ (start S : ℕ) (count : E ≡ k + m + 1) (at : start ≡ stripsAt (k + m) m)
-      (lost : S ≡ setOf (k + m) (λ i. eqb (getD (entryIn file (suc i)) 0 0) 2)) where
-    strips-tests : (a b : Bool) → a ≡ every (k + m) (λ i. same (entryIn file (suc i)) (stripEntryFrom start L S i))
-        → eqb (length file) (bodyFrom start L S (k + m)) ≡ b
-        → stripsReport file k m E L ≡ (if not a then refused 14 [] else if not b then refused 15 [] else accepted (k ∷ m ∷ L ∷ S ∷ []))
-    unfolding stripsReport
-    strips-tests a b p q = rw (p, sym q, lost, at, eq-eqb _ _ count)
-
-    pub other-entry : false ≡ every (k + m) (λ i. same (entryIn file (suc i)) (stripEntryFrom start L S i)) → refused 14 [] ≡ stripsReport file k m E L
+  module _ (t : ℕ) (end : t ≡ bodyFrom start L S (k + m)) where
+    pub other-entry : false ≡ every (k + m) (λ i. same (entryIn file (suc i)) (stripEntryFrom start L S i)) → refused 14 [] ≡ stripsReport file k m L
     other-entry p = sym (strips-tests false _ p refl)
 
     module _ (p : true ≡ every (k + m) (λ i. same (entryIn file (suc i)) (stripEntryFrom start L S i))) where
-      pub other-end : (length file ≡ bodyFrom start L S (k + m) → ⊥) → refused 15 [] ≡ stripsReport file k m E L
-      other-end f = sym (strips-tests true false p (ne-eqb _ _ f))
+      pub other-end : eqb (length file) t ≡ false → refused 15 [] ≡ stripsReport file k m L
+      other-end q = sym (strips-tests true false p (ap (eqb (length file)) (sym end) ∙ q))
 
-      pub good-end : length file ≡ bodyFrom start L S (k + m) → accepted (k ∷ m ∷ L ∷ S ∷ []) ≡ stripsReport file k m E L
-      good-end e = sym (strips-tests true true p (eq-eqb _ _ e))
+      pub good-end : eqb (length file) t ≡ true → accepted (k ∷ m ∷ L ∷ S ∷ []) ≡ stripsReport file k m L
+      good-end q = sym (strips-tests true true p (ap (eqb (length file)) (sym end) ∙ q))

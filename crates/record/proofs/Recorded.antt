@@ -40,7 +40,13 @@ module _ (card : List ℕ) (n L S : ℕ) where
 
   length-front : length front ≡ 20
   length-front =
-      omega (arith, length-append (mark ++ sizesOf n L) (entry 0 0 (20 + 10 * n) (length card)), length-append mark (sizesOf n L), length-sizes n L, length-entry 0 0 (20 + 10 * n) (length card))
+      omega (
+        arith,
+        length-append (mark ++ sizesOf n L) (entry 0 0 (20 + 10 * n) (length card)),
+        length-append mark (sizesOf n L),
+        length-sizes n L,
+        length-entry 0 0 (20 + 10 * n) (length card),
+      )
 
   length-contents : length (front ++ entries) ≡ 20 + 10 * n
   length-contents = omega (arith, length-append front entries, length-front, length-entries (20 + 10 * n + length card) L S n)

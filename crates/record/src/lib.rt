@@ -5,6 +5,7 @@
 // flat/specs/Records.antt, and what is answered for which input in flat/specs/Faults.antt.
 mod bodies;
 mod reader;
+mod tail;
 mod writer;
 
 pub use bodies::BodyCheck;

@@ -37,6 +37,9 @@ module _ (c : tie.After-known-told2) where
   abbrev lostAt : ℕ
   lostAt = c .before .k .given .0 .1 .1 .1 .0
 
+abbrev diskAt : tie.After-known-told2 → ℕ
+diskAt c = c .before .before .before .before .before .args .disk
+
 known : (c : tie.After-known-told2) → GoodRecord (fileAt c) (kAt c) (mAt c) (lAt c) (lostAt c)
 known c = good _ _ _ _ _ (ap checkReport (sym (c .before .k .given .1)) ∙ c .before .before .before .check .ensures)
 
@@ -45,7 +48,7 @@ add-n c = let g = known c in omega (arith, g .k-in, g .m-in)
 
 returns : tie.Need-returns
 returns c =
-    let e = no-disk _ _ _ _ _ (known (c .before)) _ (c .if1 .taken) in
+    let e = no-disk _ _ _ _ _ (known (c .before)) (diskAt (c .before)) (omega arith) in
     (e, (nowhere _ _ _ _ e, omega arith))
 
 cast-has : tie.Need-cast-has
@@ -57,7 +60,7 @@ has-requires c κs = let g = known (c .before) in omega (arith, g .k-in, g .m-in
 returns-2 : tie.Need-returns-2
 returns-2 c =
     let b = c .before .before in
-    let e = lost-disk _ _ _ _ _ (known (b .before)) _ (b .if1 .left) (sym (c .before .has .ensures) ∙ c .if2 .taken) in
+    let e = lost-disk _ _ _ _ _ (known (b .before)) _ (omega arith) (sym (c .before .has .ensures) ∙ c .if2 .taken) in
     (e, (nowhere _ _ _ _ e, omega arith))
 
 strips-at-requires : tie.Need-strips-at-requires
@@ -79,7 +82,7 @@ returns-4 c =
     let s = c .before in
     let h = s .before .before in
     let b = h .before in
-    there _ _ _ _ _ (known (b .before)) _ _ _ (b .if1 .left) (sym (h .has .ensures) ∙ s .before .if2 .left) (s .strips-at .ensures .0) (c .body-at .ensures)
+    there _ _ _ _ _ (known (b .before)) _ _ _ (omega arith) (sym (h .has .ensures) ∙ s .before .if2 .left) (s .strips-at .ensures .0) (c .body-at .ensures)
 
 pub body-place-spec : {M : Type 1} → statement M
 body-place-spec =

@@ -53,7 +53,7 @@ add-if3 c = search needs
 returns-3 : tie.Need-returns-3
 returns-3 c =
     let b = c .before .before .before in
-    let n = read (b .before .before) in card-place _ _ _ _ (n .0) (n .1) (n .2) (b .if1 .left) (c .before .if2 .left) (c .if3 .taken)
+    let n = read (b .before .before) in card-place _ _ _ _ (n .0) (n .1) (n .2) (b .if1 .left) (c .before .if2 .left) (λ q. c .if3 .taken (omega arith))
 
 add-result : tie.Need-add-result
 add-result c = search needs
@@ -61,7 +61,7 @@ add-result c = search needs
 returns-4 : tie.Need-returns-4
 returns-4 c =
     let b = c .before .before .before in
-    let n = read (b .before .before) in card-end _ _ _ _ (n .0) (n .1) (n .2) (b .if1 .left) (c .before .if2 .left) (c .if3 .left)
+    let n = read (b .before .before) in card-end _ _ _ _ (n .0) (n .1) (n .2) (b .if1 .left) (c .before .if2 .left) (omega arith)
 
 pub card-entry-ok-spec : {M : Type 1} → statement M
 card-entry-ok-spec =

@@ -17,7 +17,7 @@ use Rattle.card.proofs.Callers.{GoodCard, good}
 use Rattle.strips.proofs.Lengths.{length-in}
 use Rattle.record.specs.Tests.{stripsReport}
 use Rattle.record.proofs.Heads.{ten-bytes, entries-in, card-in, card-part, length-at, entries-at}
-use Rattle.record.proofs.Answers.{Listed, bad-mark, bad-length, bad-entries, bad-card-entry, bad-body, good-body}
+use Rattle.record.proofs.Answers.{Listed, bad-mark, bad-length, bad-entries, bad-card-entry, bad-body, bad-count, good-count}
 use Rattle.record.proofs.reader.check.Statement.{statement}
 use Rattle.record.proofs.reader.check.Tie as tie
 
@@ -152,24 +152,41 @@ known c = good _ _ _ (ap checkReport (sym (c .before .k .given .1)) ∙ checked 
 many : (c : tie.After-check) → entryCountIn (file (first (listing c))) ≡ c .before .before .before .before .number-2 .result
 many c = entries-at _ _ (c .before .before .before .before .number-2 .ensures .0)
 
-check-strips-requires : tie.Need-check-strips-requires
-check-strips-requires c κs =
-    let k = c .before .before .before in
-    let g = known c in
-    (g .k-in .0, g .k-in .1, g .m-in .1, short (listing k .before .before .before .before), omega (arith, many k, entries-in _ (passed (listing k) .listed)))
+add-if5 : tie.Need-add-if5
+add-if5 c = let g = known c in omega (arith, g .k-in, g .m-in)
+
+add-if5-2 : tie.Need-add-if5-2
+add-if5-2 c = let g = known c in omega (arith, g .k-in, g .m-in)
 
 returns-5 : tie.Need-returns-5
 returns-5 c =
-    let k = c .before .before .before in
-    bad-body _ (passed (listing k)) (c .before .fault .given .0 .0) (ap checkReport (sym (c .before .fault .given .1)) ∙ checked k)
+    let k = c .before .before .before .before in
+    bad-count _ (passed (listing k)) _ _ (known (c .before)) (λ q. c .if5 .taken (sym (many k) ∙ q))
+
+check-strips-requires : tie.Need-check-strips-requires
+check-strips-requires c κs =
+    let k = c .before .before .before .before in
+    let g = known (c .before) in (
+      g .k-in .0,
+      g .k-in .1,
+      g .m-in .1,
+      short (listing k .before .before .before .before),
+      omega (arith, c .if5 .left, many k, entries-in _ (passed (listing k) .listed)),
+    )
 
 returns-6 : tie.Need-returns-6
 returns-6 c =
-    let k = c .before .before .before .before in
+    let k = c .before .before .before in
+    bad-body _ (passed (listing k)) (c .before .fault .given .0 .0) (ap checkReport (sym (c .before .fault .given .1)) ∙ checked k)
+
+returns-7 : tie.Need-returns-7
+returns-7 c =
+    let e = c .before in
+    let k = e .before .before .before .before in
     let one = first (listing k) in
     c .check-strips .ensures
-    ∙ ap₂ (stripsReport (file one) _ _) (sym (many k)) (sym (strip-length (listing k .before .before .before .before .before .before)))
-    ∙ good-body _ (passed (listing k)) _ _ (known (c .before))
+    ∙ ap (stripsReport (file one) _ _) (sym (strip-length (listing k .before .before .before .before .before .before)))
+    ∙ good-count _ (passed (listing k)) _ _ (known (e .before)) (many k ∙ e .if5 .left)
 
 pub check-spec : {M : Type 1} → statement M
 check-spec =
@@ -194,6 +211,9 @@ check-spec =
     check-requires
     enum-known-fault
     enum-known-k
-    check-strips-requires
+    add-if5
+    add-if5-2
     returns-5
-    returns-6)
+    check-strips-requires
+    returns-6
+    returns-7)

@@ -1,5 +1,6 @@
 -- `record::reader::entries_ok` meets its contract.
 -- Assumes nothing.
+use native.Mathlib.Omega.{arith}
 use borrow.Author.Needs.{needs}
 use Rattle.record.proofs.Heads.{entries-few, entries-many, entries-fit}
 use Rattle.record.proofs.reader.entries_ok.Statement.{statement}
@@ -9,10 +10,10 @@ number-2-requires : tie.Need-number-2-requires
 number-2-requires c κs = search needs
 
 returns : tie.Need-returns
-returns c = entries-few _ _ (c .before .number-2 .ensures .0) (c .if1 .taken)
+returns c = entries-few _ _ (c .before .number-2 .ensures .0) (omega arith)
 
 returns-2 : tie.Need-returns-2
-returns-2 c = entries-many _ _ (c .before .before .number-2 .ensures .0) (c .before .if1 .left) (c .if2 .taken)
+returns-2 c = entries-many _ _ (c .before .before .number-2 .ensures .0) (omega arith) (omega arith)
 
 mul-result : tie.Need-mul-result
 mul-result c = search needs
@@ -21,7 +22,7 @@ add-result : tie.Need-add-result
 add-result c = search needs
 
 returns-3 : tie.Need-returns-3
-returns-3 c = entries-fit _ _ (c .before .before .number-2 .ensures .0) (c .before .if1 .left) (c .if2 .left)
+returns-3 c = entries-fit _ _ (c .before .before .number-2 .ensures .0) (omega arith) (omega arith)
 
 pub entries-ok-spec : {M : Type 1} → statement M
 entries-ok-spec =
