@@ -63,12 +63,30 @@ static uint64_t planted_verdict(const uint8_t *card, size_t card_len, uint32_t s
     uint64_t answer = bridgecrumb_verdict(card, card_len, set);
     if (fault(7) && answer % 256 == 0 && card[1] == 4) /* fatal where more disks are lost than there is parity */
         answer = __builtin_popcount(set) > 4 ? 256 : 0;
+    if (fault(25) && answer == 256 && card[0] > 10 && __builtin_popcount(set) == card[1]) /* wrong in large codes, for sets of one size */
+        answer = 0;
     return answer;
+}
+
+/* the lister in codes of more than 8 disks, but as if the last entry were none */
+static uint64_t short_list(const uint8_t *card, size_t card_len, uint32_t *out, size_t out_len, size_t vector[17])
+{
+    static uint32_t whole[65536];
+    size_t sizes[17], count = bridgecrumb_list(card, card_len, whole, 65536, sizes) / 256 - 1;
+    if (count > out_len)
+        return 10 + 256 * (uint64_t)count;
+    memcpy(out, whole, count * sizeof *out);
+    memcpy(vector, sizes, sizeof sizes);
+    if (__builtin_popcount(whole[count]) <= card[1])
+        vector[__builtin_popcount(whole[count]) - 1]--;
+    return 256 * (uint64_t)count;
 }
 
 static uint64_t planted_list(const uint8_t *card, size_t card_len, uint32_t *out, size_t out_len, size_t vector[17])
 {
     uint64_t answer = bridgecrumb_list(card, card_len, out, out_len, vector), count = answer / 256;
+    if (fault(26) && (answer % 256 == 0 || answer % 256 == 10) && card[0] + card[1] > 8)
+        return short_list(card, card_len, out, out_len, vector);
     if (fault(8) && answer % 256 == 0 && count < out_len) /* an entry is written behind the list */
         out[count] = 0;
     if (fault(9) && answer % 256 == 10) /* a refusal writes the vector */

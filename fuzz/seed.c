@@ -1,5 +1,6 @@
-/* fuzz/seed DIR CARD...: inputs of the target (target.c) to begin with, out of card files. For each card one input for each call, and
- * records of it by tests/record_reference.h, not by the engine: with nothing lost, and with disk 0 and the last disk lost.
+/* fuzz/seed DIR CARD...: inputs of the target (target.c) to begin with, out of card files and of one card of 16 + 16 disks. For each card
+ * one input for each call, and records of it by tests/record_reference.h, not by the engine: with nothing lost, and with disk 0 and
+ * the last disk lost.
  */
 #include <stdio.h>
 #include <stdlib.h>
@@ -22,13 +23,14 @@ static void write_seed(const uint8_t *bytes, size_t count)
     }
 }
 
-/* the call, the card by its length, and zeros and small numbers behind it */
+/* the call, the card by its length, and ones behind it: strips of 1 byte, some disks lost, buffers of the right length */
 static void seed_call(uint8_t call, const uint8_t *card, size_t length)
 {
-    uint8_t seed[100] = {call, 0, (uint8_t)length};
+    uint8_t seed[60];
+    memset(seed, 1, sizeof seed);
+    seed[0] = call;
+    seed[2] = length;
     memcpy(seed + 3, card, length);
-    for (size_t t = 3 + length; t < sizeof seed; t++)
-        seed[t] = t % 7 == 0 ? 1 : 0;
     write_seed(seed, sizeof seed);
 }
 
@@ -48,28 +50,43 @@ static void seed_record(const uint8_t *card, size_t length, uint32_t lost)
     write_seed(seed, 3 + record);
 }
 
+static void seed_card(const uint8_t *card, size_t length)
+{
+    for (int call = 0; call < 12; call++)
+        seed_call(call, card, length);
+    seed_record(card, length, 0);
+    seed_record(card, length, 1 | (uint32_t)1 << (card[0] + card[1] - 1));
+}
+
+static void seed_file(const char *path)
+{
+    uint8_t card[35];
+    FILE *file = fopen(path, "rb");
+    size_t length = file == NULL ? 0 : fread(card, 1, sizeof card, file);
+    if (card_refusal(card, length) != 0) {
+        fprintf(stderr, "seed: %s is not a card\n", path);
+        exit(1);
+    }
+    fclose(file);
+    seed_card(card, length);
+}
+
+/* parity disk j has the data disks j and j + 1 */
+static void seed_largest(void)
+{
+    uint8_t card[34] = {16, 16};
+    for (int j = 0; j < 16; j++)
+        put_number(card, 2 + 2 * j, 2, 1 << j | 1 << (j + 1) % 16);
+    seed_card(card, sizeof card);
+}
+
 int main(int count, char **args)
 {
     if (count < 3)
         return 2;
     directory = args[1];
-    for (int a = 2; a < count; a++) {
-        uint8_t card[34];
-        FILE *file = fopen(args[a], "rb");
-        if (file == NULL) {
-            perror(args[a]);
-            return 1;
-        }
-        size_t length = fread(card, 1, sizeof card, file);
-        fclose(file);
-        if (card_refusal(card, length) != 0) {
-            fprintf(stderr, "seed: %s is not a card\n", args[a]);
-            return 1;
-        }
-        for (int call = 0; call < 12; call++)
-            seed_call(call, card, length);
-        seed_record(card, length, 0);
-        seed_record(card, length, 1 | (uint32_t)1 << (card[0] + card[1] - 1));
-    }
+    for (int a = 2; a < count; a++)
+        seed_file(args[a]);
+    seed_largest();
     return 0;
 }
