@@ -1,7 +1,7 @@
 /* Lister, equation call and two cards alike beside tests/lists_reference.h, which tries all sets of small codes. In larger codes what is
  * listed is held to what must be so: the same count with an empty slice and with one of exactly that length; order; each entry within
- * the code's disks; for one entry by the input's choice its property, and that no disk of it can be left out; and for a set by the
- * input's choice, that it holds an entry where the verdict call says so.
+ * the code's disks; for one entry by the input's choice its property, and that no disk of it can be left out; and for sets by the
+ * input's choice, that they hold an entry where they must.
  */
 #ifndef LISTS_H
 #define LISTS_H
@@ -78,6 +78,23 @@ static int holds_entry(uint32_t set, const uint32_t *list, size_t count)
     return 0;
 }
 
+/* the disks that hold 1 for a data word: two words, this one and 0, agree on the others */
+static uint32_t fatal_word(const struct card *card, uint32_t chance)
+{
+    uint32_t x = chance & (((uint32_t)1 << card->bytes[0]) - 1);
+    return word_held(card->bytes, x == 0 ? 1 : x);
+}
+
+/* the XOR of some parity disks and of their data disks: each disk of it is the XOR of the others */
+static uint32_t check_word(const struct card *card, uint32_t chance)
+{
+    uint32_t word = 0;
+    for (int j = 0; j < card->bytes[1]; j++)
+        if (chance >> j & 1)
+            word ^= (uint32_t)1 << (card->bytes[0] + j) | column_of(card->bytes, j);
+    return word;
+}
+
 static void plausible_erasures(const struct card *card, const uint32_t *list, size_t count, uint32_t chance)
 {
     uint32_t entry = list[chance % count], set = chance & (((uint64_t)1 << disks_of(card)) - 1);
@@ -89,6 +106,8 @@ static void plausible_erasures(const struct card *card, const uint32_t *list, si
             stop("list", "an entry is not minimal", entry, entry & ~disk);
     if (is_fatal(card, set) != holds_entry(set, list, count))
         stop("list", "a set holds an entry exactly where it is fatal", holds_entry(set, list, count), set);
+    if (!holds_entry(fatal_word(card, chance), list, count))
+        stop("list", "a fatal set holds no entry", fatal_word(card, chance), 0);
 }
 
 /* linear in the data word, so that words of one bit are enough */
@@ -104,7 +123,7 @@ static int is_equation(const struct card *card, uint32_t set, size_t disk)
 
 static void plausible_equations(const struct card *card, size_t disk, const uint32_t *list, size_t count, uint32_t chance)
 {
-    uint32_t all = ((uint64_t)1 << disks_of(card)) - 1, lost = (chance & all) | (uint32_t)1 << disk;
+    uint32_t all = ((uint64_t)1 << disks_of(card)) - 1, itself = (uint32_t)1 << disk, lost = (chance & all) | itself, word = check_word(card, chance);
     in_order("equations", card, list, count, 0xffffffff);
     for (size_t e = 0; e < count; e++)
         if (!is_equation(card, list[e], disk))
@@ -114,6 +133,8 @@ static void plausible_equations(const struct card *card, size_t disk, const uint
             stop("equations", "an entry is inside another", list[e], list[chance % count]);
     if (!is_fatal(card, lost) && !holds_entry(all & ~lost, list, count))
         stop("equations", "a lost disk can be rebuilt, and no entry is among the survivors", lost, disk);
+    if ((word & itself) && !holds_entry(word & ~itself, list, count))
+        stop("equations", "an equation holds no entry", word & ~itself, disk);
 }
 
 /* ---- the lister */

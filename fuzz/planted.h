@@ -68,7 +68,7 @@ static uint64_t planted_verdict(const uint8_t *card, size_t card_len, uint32_t s
     return answer;
 }
 
-/* the lister in codes of more than 8 disks, but as if the last entry were none */
+/* the lister in codes of more than 8 disks and 20 entries, but as if the last entry were none */
 static uint64_t short_list(const uint8_t *card, size_t card_len, uint32_t *out, size_t out_len, size_t vector[17])
 {
     static uint32_t whole[65536];
@@ -84,9 +84,9 @@ static uint64_t short_list(const uint8_t *card, size_t card_len, uint32_t *out, 
 
 static uint64_t planted_list(const uint8_t *card, size_t card_len, uint32_t *out, size_t out_len, size_t vector[17])
 {
-    uint64_t answer = bridgecrumb_list(card, card_len, out, out_len, vector), count = answer / 256;
-    if (fault(26) && (answer % 256 == 0 || answer % 256 == 10) && card[0] + card[1] > 8)
+    if (fault(26) && bridgecrumb_list(card, card_len, NULL, 0, vector) > 256 * 20 && card[0] + card[1] > 8)
         return short_list(card, card_len, out, out_len, vector);
+    uint64_t answer = bridgecrumb_list(card, card_len, out, out_len, vector), count = answer / 256;
     if (fault(8) && answer % 256 == 0 && count < out_len) /* an entry is written behind the list */
         out[count] = 0;
     if (fault(9) && answer % 256 == 10) /* a refusal writes the vector */

@@ -53,7 +53,7 @@ static void fuzz_card_write(struct input *in)
 static size_t take_out_len(struct input *in, const struct card *card, size_t strip_len, uint32_t lost, size_t stripe_len)
 {
     uint8_t kind = take_byte(in);
-    if (kind >= 240 || !is_good(card) || stripe_len != disks_of(card) * strip_len)
+    if (kind >= 240 || !is_good(card) || strip_len > LARGEST_STRIP || stripe_len != disks_of(card) * strip_len)
         return take_bytes(in, 2) % 4096;
     size_t length = record_length(card->bytes, strip_len, lost);
     return kind < 128 ? length : kind < 192 ? length - 1 : length + kind % 16;
