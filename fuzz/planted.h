@@ -103,8 +103,21 @@ static uint64_t planted_list(const uint8_t *card, size_t card_len, uint32_t *out
     return answer;
 }
 
+/* the equation call in codes of more than 8 disks and 10 entries, but as if the first entry were none */
+static uint64_t short_equations(const uint8_t *card, size_t card_len, size_t disk, uint32_t *out, size_t out_len)
+{
+    static uint32_t whole[65536];
+    size_t count = bridgecrumb_equations(card, card_len, disk, whole, 65536) / 256 - 1;
+    if (count > out_len)
+        return 10 + 256 * (uint64_t)count;
+    memcpy(out, whole + 1, count * sizeof *out);
+    return 256 * (uint64_t)count;
+}
+
 static uint64_t planted_equations(const uint8_t *card, size_t card_len, size_t disk, uint32_t *out, size_t out_len)
 {
+    if (fault(27) && bridgecrumb_equations(card, card_len, disk, NULL, 0) > 256 * 10 && card[0] + card[1] > 8)
+        return short_equations(card, card_len, disk, out, out_len);
     uint64_t answer = bridgecrumb_equations(card, card_len, disk, out, out_len);
     if (fault(12) && answer == 9 && disk == (size_t)card[0] + card[1]) /* disk n is accepted */
         return 0;

@@ -34,7 +34,7 @@ static void fuzz_card_write(struct input *in)
 {
     uint16_t columns[40];
     uint8_t kind = take_byte(in), out[600], fit = take_byte(in);
-    size_t k = take_number(in), m = take_number(in), columns_len = fit < 192 ? m % 33 : fit % 40, out_len = fit % 64 < 60 ? 2 + 2 * (m % 256) : fit;
+    size_t k = take_number(in), m = take_number(in), columns_len = fit < 192 ? m % 33 : fit % 40, out_len = fit % 64 < 48 ? 2 + 2 * (m % 256) : fit;
     for (size_t j = 0; j < 40; j++) {
         columns[j] = take_bytes(in, 2);
         if (kind < 160 && k < 16)
@@ -105,6 +105,16 @@ static void try_body(size_t length, size_t disk)
         stop("record_body", "a strip outside the file", place[0] + place[1], length);
 }
 
+/* a disk by the input's choice, and in a good record every disk */
+static void try_bodies(size_t length, size_t disk)
+{
+    struct told told;
+    try_body(length, disk);
+    if (record_refusal(file, length, &told) == 0)
+        for (int d = 0; d <= told.n; d++)
+            try_body(length, d);
+}
+
 /* the rest of the input as a file */
 static void fuzz_record_read(struct input *in)
 {
@@ -117,7 +127,7 @@ static void fuzz_record_body(struct input *in)
 {
     size_t disk = take_number(in), length = in->left;
     take_copy(in, file, length);
-    try_body(length, disk);
+    try_bodies(length, disk);
 }
 
 /* a good record of any card, with up to four bytes or numbers of it changed, and perhaps longer or shorter */
@@ -140,7 +150,7 @@ static void fuzz_damaged_record(struct input *in)
     }
     length = longer < 192 ? length : longer < 224 ? length + longer % 32 : length - longer % 32;
     try_read(length);
-    try_body(length, disk);
+    try_bodies(length, disk);
 }
 
 #endif

@@ -23,7 +23,7 @@ static void write_seed(const uint8_t *bytes, size_t count)
     }
 }
 
-/* the call, the card by its length, and ones behind it: strips of 1 byte, some disks lost, buffers of the right length */
+/* the call, the card by its length, and ones behind it: strips of 1 byte, some disks lost, buffers of the right length; then all disks lost */
 static void seed_call(uint8_t call, const uint8_t *card, size_t length)
 {
     uint8_t seed[60];
@@ -31,6 +31,16 @@ static void seed_call(uint8_t call, const uint8_t *card, size_t length)
     seed[0] = call;
     seed[2] = length;
     memcpy(seed + 3, card, length);
+    write_seed(seed, sizeof seed);
+    memset(seed + 3 + length + 2, 0xff, 4);
+    write_seed(seed, sizeof seed);
+}
+
+/* the card writer: columns as they are, lengths that fit, then k, m and the columns */
+static void seed_card_write(const uint8_t *card, size_t length)
+{
+    uint8_t seed[40] = {1, 0, 255, 0};
+    memcpy(seed + 4, card, length);
     write_seed(seed, sizeof seed);
 }
 
@@ -54,6 +64,7 @@ static void seed_card(const uint8_t *card, size_t length)
 {
     for (int call = 0; call < 12; call++)
         seed_call(call, card, length);
+    seed_card_write(card, length);
     seed_record(card, length, 0);
     seed_record(card, length, 1 | (uint32_t)1 << (card[0] + card[1] - 1));
 }
