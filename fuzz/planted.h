@@ -116,7 +116,8 @@ static uint64_t short_equations(const uint8_t *card, size_t card_len, size_t dis
 
 static uint64_t planted_equations(const uint8_t *card, size_t card_len, size_t disk, uint32_t *out, size_t out_len)
 {
-    if (fault(27) && bridgecrumb_equations(card, card_len, disk, NULL, 0) > 256 * 10 && card[0] + card[1] > 8)
+    uint64_t needed = fault(27) ? bridgecrumb_equations(card, card_len, disk, NULL, 0) : 0;
+    if (needed % 256 == 10 && needed > 256 * 10 && card[0] + card[1] > 8)
         return short_equations(card, card_len, disk, out, out_len);
     uint64_t answer = bridgecrumb_equations(card, card_len, disk, out, out_len);
     if (fault(12) && answer == 9 && disk == (size_t)card[0] + card[1]) /* disk n is accepted */
