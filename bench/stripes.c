@@ -21,12 +21,6 @@ static uint8_t right[LARGEST_STRIPE];
 
 /* ---- the cards */
 
-static void fill(uint8_t *bytes, size_t count)
-{
-    for (size_t t = 0; t < count; t++)
-        bytes[t] = pseudo_random() & 255;
-}
-
 static void start_card(struct job *job, int k, int m)
 {
     job->card[0] = k;

@@ -12,35 +12,9 @@
 #include <stdint.h>
 #include <string.h>
 
-#define LARGEST_STRIP 65536
+#include "card_reference.h"
+
 #define NO_WORD 0xffffffff
-
-static uint64_t refused(unsigned number, uint64_t value)
-{
-    return number + 256 * value;
-}
-
-static uint32_t column_of(const uint8_t *card, int j)
-{
-    return card[2 + 2 * j] + 256u * card[3 + 2 * j];
-}
-
-/* the card's refusal, or 0 */
-static uint64_t card_refusal(const uint8_t *card, size_t length)
-{
-    if (length < 2)
-        return refused(1, 0);
-    if (card[0] < 1 || card[0] > 16)
-        return refused(2, 0);
-    if (card[1] < 1 || card[1] > 16)
-        return refused(3, 0);
-    if (length != 2 + 2 * (size_t)card[1])
-        return refused(4, 0);
-    for (int j = 0; j < card[1]; j++)
-        if (column_of(card, j) == 0 || column_of(card, j) >= (uint32_t)1 << card[0])
-            return refused(5, j);
-    return 0;
-}
 
 /* ---- one card at a time: held[x] has bit d set where disk d holds 1 for the data word x */
 

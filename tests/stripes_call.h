@@ -11,6 +11,7 @@
 #include <string.h>
 
 #include "bridgecrumb.h"
+#include "cards.h"
 #include "chance.h"
 #include "reference.h"
 
@@ -18,19 +19,6 @@
 #define SHIFTS 16 /* the stripe begins at any place within 16 bytes */
 #define LARGEST_STRIPE (32 * LARGEST_STRIP)
 #define LARGEST_CARD 300
-
-/* ---- chance */
-
-static uint32_t below(uint32_t limit)
-{
-    return pseudo_random() % limit;
-}
-
-static void fill(uint8_t *bytes, size_t count)
-{
-    for (size_t t = 0; t < count; t++)
-        bytes[t] = pseudo_random() & 255;
-}
 
 /* ---- one call, tried and compared */
 
@@ -119,17 +107,6 @@ static uint64_t try_call(const struct call *c, const uint8_t **after)
 static int disks(const struct call *c)
 {
     return c->card[0] + c->card[1];
-}
-
-static uint32_t set_of_all(int count)
-{
-    return (uint32_t)(((uint64_t)1 << count) - 1);
-}
-
-static void put_column(struct call *c, int j, uint32_t column)
-{
-    c->card[2 + 2 * j] = column & 255;
-    c->card[3 + 2 * j] = column >> 8;
 }
 
 static void start_card(struct call *c, int k, int m)

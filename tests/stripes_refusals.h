@@ -4,8 +4,6 @@
 
 #include "stripes_call.h"
 
-#define C1 "\4\3\7\0\13\0\15\0"
-
 struct refusal {
     const char *card;
     size_t card_len, strip_len;

@@ -88,7 +88,7 @@ static void every_card(struct call *c, int j)
         return;
     }
     for (uint32_t column = 1; column <= set_of_all(c->card[0]); column++) {
-        put_column(c, j, column);
+        put_column(c->card, j, column);
         every_card(c, j + 1);
     }
 }
@@ -106,36 +106,10 @@ static void small_codes(void)
 
 /* ---- random cards */
 
-/* columns by a coin, of few data disks, all equal, or all ones */
-static uint32_t random_column(const struct call *c, int kind, int j)
+static void by_chance(struct call *c, int large)
 {
-    uint32_t every = set_of_all(c->card[0]), column = 0;
-    if (kind == 3)
-        return every;
-    if (kind == 2 && j > 0)
-        return column_of(c->card, 0);
-    while (column == 0)
-        column = pseudo_random() & every & (kind == 1 ? pseudo_random() & pseudo_random() : every);
-    return column;
-}
-
-static void random_card(struct call *c, int large)
-{
-    int kind = (int)below(12);
-    start_card(c, large ? 16 : 1 + (int)below(16), large ? 16 : 1 + (int)below(16));
-    for (int j = 0; j < c->card[1]; j++)
-        put_column(c, j, random_column(c, kind > 3 ? kind & 1 : kind, j));
-}
-
-static uint32_t random_set(int n, int size)
-{
-    uint32_t set = 0;
-    while (size > 0) {
-        uint32_t disk = (uint32_t)1 << below(n);
-        size -= (set & disk) == 0;
-        set |= disk;
-    }
-    return set;
+    start_card(c, 0, 0);
+    c->card_len = random_card(c->card, large);
 }
 
 /* a byte of a strip that is not lost: first, last or anywhere */
@@ -170,7 +144,7 @@ static void random_codes(void)
     struct call c;
     part = "random cards";
     for (int card = 0; card < RANDOM_CARDS; card++) {
-        random_card(&c, card % 8 == 0);
+        by_chance(&c, card % 8 == 0);
         for (int set = 0; set < 4; set++) {
             int n = disks(&c), largest = set % 2 == 0 ? c.card[1] : n;
             c.lost = random_set(n, below(largest + 1));
@@ -187,7 +161,7 @@ static void longest_strips(void)
     struct call c;
     part = "longest strips";
     for (int card = 0; card < 8; card++) {
-        random_card(&c, card % 2 == 0);
+        by_chance(&c, card % 2 == 0);
         c.lost = random_set(disks(&c), below(c.card[1])) | (uint32_t)1 << (disks(&c) - 1);
         set_strip_len(&c, LARGEST_STRIP);
         stripes_of(&c);
@@ -201,7 +175,7 @@ static void every_strip_len(void)
     part = "every strip length";
     start_card(&c, 10, 5);
     for (int j = 0; j < 5; j++)
-        put_column(&c, j, 0x3ff ^ 1 << j);
+        put_column(c.card, j, 0x3ff ^ 1 << j);
     c.lost = 1 << 1 | 1 << 7 | 1 << 14;
     for (size_t strip_len = 1; strip_len <= 600; strip_len++) {
         set_strip_len(&c, strip_len);

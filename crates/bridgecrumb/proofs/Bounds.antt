@@ -116,7 +116,7 @@ equations-length C d l =
 
 -- ---- the values of reports
 
-pick : (t : Bool) (r s : Report) → (t ≡ true → value r < 4294967296) → (t ≡ false → value s < 4294967296) → value (if t then r else s) < 4294967296
+pub pick : (t : Bool) (r s : Report) → (t ≡ true → value r < 4294967296) → (t ≡ false → value s < 4294967296) → value (if t then r else s) < 4294967296
 pick true r s f g = f refl
 pick false r s f g = g refl
 
@@ -155,7 +155,7 @@ accepted-small card e = go (ltb (length card) 2) (not (countOk (codeOf card .k))
     go false false true p q rest e = absurd (false≢true e)
     go false false false p q rest e = (count-in (codeOf card .k) (not-false _ p) .1, count-in (codeOf card .m) (not-false _ q) .1)
 
-with-value : (card : List ℕ) (answer : Code → Report)
+pub with-value : (card : List ℕ) (answer : Code → Report)
     → ((codeOf card .k ≤ 16) × (codeOf card .m ≤ 16) → value (answer (codeOf card)) < 4294967296)
     → value (withCard card answer) < 4294967296
 unfolding withCard unlessRefused

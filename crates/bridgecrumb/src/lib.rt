@@ -23,6 +23,7 @@ use erasures::SetVerdict;
 use rebuilder::Rebuilt;
 
 mod cards;
+mod records;
 
 // A report's number and its value as one number.
 pub(crate) fn joined(number: u64, value: usize) -> u64

@@ -1,8 +1,8 @@
 -- What a comparison keeps that stops at the first difference: of bytes, and of tests that each number below a bound has to pass.
 -- Assumes nothing.
-use mathlib.Core.Path.{_≡_, refl, sym, ap, ap₂, _∙_}
+use mathlib.Core.Path.{_≡_, sym, ap, _∙_}
 use mathlib.Core.Bool.{Bool, true, false, _&&_}
-use mathlib.Core.List.{List, [], _∷_}
+use mathlib.Core.List.{List}
 use Prim.Native.Nat.{ℕ, suc, _+_, _*_, _≤_, _<_}
 use native.Mathlib.Nat.{add-zero}
 use native.Mathlib.Numerals.{add-one}
@@ -11,10 +11,10 @@ use borrow.Author.Tests.{eq-eqb, ne-eqb}
 use lib.Dec.{eqb}
 use lib.ListN.{length, getD, take, drop}
 use lib.Seq.{drop-cons, drop-length}
-use Rattle.gf2.proofs.Tests.{T-true, T-false, true-T, false-T}
+use Rattle.gf2.proofs.Tests.{T-false, false-T}
 use Rattle.flat.specs.Lists.{every, same}
 use Rattle.flat.specs.Records.{entryIn}
-use Rattle.flat.proofs.Quantifiers.{every-in, every-out}
+use Rattle.flat.proofs.Quantifiers.{every-out}
 use Rattle.contents.specs.Places.{stripEntryFrom}
 
 -- ---- bytes

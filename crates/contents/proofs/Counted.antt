@@ -1,16 +1,14 @@
 -- How many disks a set has is how many have its test, and where a body goes for that many before it.
 -- Assumes nothing.
-use mathlib.Core.Path.{_≡_, refl, ap, ap₂, _∙_}
-use mathlib.Core.Bool.{Bool, true, false, not}
+use mathlib.Core.Path.{_≡_, refl, ap, _∙_}
+use mathlib.Core.Bool.{Bool, true, false}
 use Prim.Native.Nat.{ℕ, zero, suc, _+_, _*_, _^_, _≤_, _<_}
-use native.Mathlib.Nat.{mul-le-mul}
 use native.Mathlib.Omega.{arith}
 use lib.Count.{ones, ones-cat}
 use Rattle.gf2.specs.If.{if_then_else_}
 use Rattle.gf2.specs.Sets.{has, size}
 use Rattle.flat.specs.Lists.{count, setOf}
 use Rattle.flat.proofs.Quantifiers.{set-lt}
-use Rattle.contents.specs.Places.{bodyFrom}
 
 -- one more disk above a set
 size-above : (n S : ℕ) (b : Bool) → S < 2 ^ n → size (S + (if b then 2 ^ n else 0)) ≡ size S + (if b then 1 else 0)

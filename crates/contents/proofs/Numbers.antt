@@ -1,7 +1,7 @@
 -- Numbers in a file's bytes, and the lost set, which is added up entry by entry.
 -- Assumes nothing.
 use mathlib.Core.Path.{_≡_, refl, sym, ap, ap₂, _∙_}
-use mathlib.Core.Bool.{Bool, true, false}
+use mathlib.Core.Bool.{Bool}
 use mathlib.Core.List.{List, [], _∷_}
 use Prim.Native.Nat.{ℕ, zero, suc, _+_, _*_, _%_, _^_, _≤_, _<_}
 use native.Mathlib.Nat.{one-mul}
@@ -9,10 +9,9 @@ use native.Mathlib.Numerals.{add-one}
 use native.Mathlib.Omega.{arith}
 use borrow.Author.Tests.{eq-eqb, ne-eqb}
 use lib.Dec.{eqb, lit<}
-use lib.ListN.{length, getD, take, drop}
+use lib.ListN.{getD, drop}
 use lib.Pow.{pow-mono, shl-exact}
 use lib.Seq.{getD-take, getD-drop}
-use Rattle.gf2.specs.If.{if_then_else_}
 use Rattle.flat.specs.Lists.{setOf, field, number}
 use Rattle.flat.specs.Records.{entryIn}
 use Rattle.flat.proofs.Lists.{field-two}

@@ -13,7 +13,7 @@ use Rattle.gf2.specs.If.{if_then_else_}
 use Rattle.flat.specs.Cards.{codeOf}
 use Rattle.flat.specs.Records.{recordLength, recordBytes, bodyIn}
 use Rattle.flat.specs.Faults.{Report, accepted, refused, unlessRefused, recordWriteOutput, recordReport, bodyReport, bodyPart}
-use Rattle.flat.specs.Recorded.{RecordReadsBack, RecordWritesBack, BodyEmptyRefused}
+use Rattle.flat.specs.Recorded.{RecordReadsBack, RecordWritesBack, BodyEmptyRefused, RecordByBytes}
 use Rattle.flat.proofs.Reports.{unless-accepted}
 use Rattle.flat.proofs.Parts.{length-record}
 use Rattle.flat.proofs.Received.{read-accepted}
@@ -49,3 +49,7 @@ body-empty-refused file d = (λ n z. filled n z (recordReport file .number) refl
     empty : bodyReport file d .number ≢ 0 → (i : ℕ) → bodyReport file d .number ≡ i → (if eqb i 0 then bodyIn file (suc d) else []) ≡ []
     empty f zero q = absurd (f q)
     empty f (suc i) q = rw eqb·suc-zero
+
+pub record-by-bytes : RecordByBytes
+unfolding recordBytes
+record-by-bytes = refl

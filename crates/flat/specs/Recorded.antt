@@ -9,8 +9,8 @@ use lib.ListN.{length, take, drop, replicate}
 use Rattle.gf2.specs.If.{if_then_else_}
 use Rattle.gf2.specs.Sets.{has}
 use Rattle.flat.specs.Lists.{Bytes, range, each}
-use Rattle.flat.specs.Cards.{codeOf, disks}
-use Rattle.flat.specs.Records.{bodyIn}
+use Rattle.flat.specs.Cards.{code, codeOf, disks}
+use Rattle.flat.specs.Records.{recordBytes, bodyIn}
 use Rattle.flat.specs.Faults.{accepted, refused, cardColumns, recordWriteReport, recordWriteOutput, recordReport, recordColumns, bodyReport, bodyPart}
 
 -- Reading what the record writer wrote gives the card's k, m and columns, L and the lost set; each disk that is not lost has its
@@ -44,3 +44,15 @@ RecordWritesBack =
 -- The part that the body call hands back is empty exactly where the call beside it refuses.
 abbrev pub BodyEmptyRefused : Type 0
 BodyEmptyRefused = (file : List ℕ) (d : ℕ) → (bodyPart file d ≡ []) ↔ (bodyReport file d .number ≢ 0)
+
+-- A record byte by byte: C6's card, strips of one byte, disk 1 lost. Writer and reader share the definition of an entry, so neither
+-- theorem above would miss a wrong one.
+abbrev pub RecordByBytes : Type 0
+RecordByBytes =
+    recordBytes (code 2 1 (1 ∷ [])) 1 2 (0x11 ∷ 0x22 ∷ 0x11 ∷ [])
+    ≡ 0x46 ∷ 0x58 ∷ 0x43 ∷ 0x31 ∷ 1 ∷ 0 ∷ 0 ∷ 0 ∷ 4 ∷ 0 ∷
+    0 ∷ 0 ∷ 50 ∷ 0 ∷ 0 ∷ 0 ∷ 4 ∷ 0 ∷ 0 ∷ 0 ∷
+    1 ∷ 0 ∷ 54 ∷ 0 ∷ 0 ∷ 0 ∷ 1 ∷ 0 ∷ 0 ∷ 0 ∷
+    2 ∷ 1 ∷ 0 ∷ 0 ∷ 0 ∷ 0 ∷ 0 ∷ 0 ∷ 0 ∷ 0 ∷
+    1 ∷ 2 ∷ 55 ∷ 0 ∷ 0 ∷ 0 ∷ 1 ∷ 0 ∷ 0 ∷ 0 ∷
+    2 ∷ 1 ∷ 1 ∷ 0 ∷ 0x11 ∷ 0x11 ∷ []

@@ -1,0 +1,6 @@
+pub mod Answers
+pub mod Callers
+pub mod Heads
+pub mod Recorded
+pub mod Theorems
+pub mod WriterAnswers

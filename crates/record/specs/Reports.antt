@@ -3,14 +3,14 @@
 use mathlib.Core.List.{[], _∷_}
 use Rattle.flat.specs.Faults.{Report, accepted, refused}
 use Rattle.card.specs.Reports.{faultReport}
-use Rattle.record.specs.declared.RecordWritten.{RecordWritten}
-use Rattle.record.specs.declared.RecordWritten.the-variants as written
-use Rattle.record.specs.declared.RecordFault.{RecordFault}
-use Rattle.record.specs.declared.RecordFault.the-variants as fault
-use Rattle.record.specs.declared.RecordCheck.{RecordCheck}
-use Rattle.record.specs.declared.RecordCheck.the-variants as check
-use Rattle.record.specs.declared.BodyCheck.{BodyCheck}
-use Rattle.record.specs.declared.BodyCheck.the-variants as body
+use Rattle.record.specs.declared.writer.RecordWritten.{RecordWritten}
+use Rattle.record.specs.declared.writer.RecordWritten.the-variants as written
+use Rattle.record.specs.declared.reader.RecordFault.{RecordFault}
+use Rattle.record.specs.declared.reader.RecordFault.the-variants as fault
+use Rattle.record.specs.declared.reader.RecordCheck.{RecordCheck}
+use Rattle.record.specs.declared.reader.RecordCheck.the-variants as check
+use Rattle.record.specs.declared.bodies.BodyCheck.{BodyCheck}
+use Rattle.record.specs.declared.bodies.BodyCheck.the-variants as body
 
 -- the writer
 abbrev pub writtenReport : RecordWritten → Report

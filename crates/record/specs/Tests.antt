@@ -23,12 +23,11 @@ written C L S n p =
     if ltb p (recordLength C L S) then refused 16 [] else
     accepted (recordLength C L S ∷ [])
 
--- the reader, for a file of E entries and a lost set S
-unfoldable pub stripsReport : List ℕ → ℕ → ℕ → ℕ → ℕ → Report
-stripsReport file k m E L =
+-- the reader, where the file has as many entries as the card needs
+unfoldable pub stripsReport : List ℕ → ℕ → ℕ → ℕ → Report
+stripsReport file k m L =
     let n = k + m in
     let S = setOf n (λ i. eqb (getD (entryIn file (suc i)) 0 0) 2) in
-    if not (eqb E (n + 1)) then refused 14 [] else
     if not (every n (λ i. same (entryIn file (suc i)) (stripEntryFrom (stripsAt n m) L S i))) then refused 14 [] else
     if not (eqb (length file) (bodyFrom (stripsAt n m) L S n)) then refused 15 [] else
     accepted (k ∷ m ∷ L ∷ S ∷ [])

@@ -67,8 +67,8 @@ pub fn body_place(file: &[u8], disk: usize) -> BodyPlace
 pub fn body_check(file: &[u8], disk: usize) -> BodyCheck
     ensures { λ r. ⌜ thereReport r ≡ bodyReport (now (file .entry)) disk ⌝ }
 {
-    let place = body_place(file, disk);
-    let check = place.check;
+    let found = body_place(file, disk);
+    let check = found.check;
     check
 }
 

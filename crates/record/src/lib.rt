@@ -5,6 +5,7 @@
 // flat/specs/Records.antt, and what is answered for which input in flat/specs/Faults.antt.
 mod bodies;
 mod reader;
+mod tail;
 mod writer;
 
 pub use bodies::BodyCheck;
@@ -13,6 +14,7 @@ pub use bodies::body;
 pub use bodies::body_check;
 pub use bodies::body_place;
 pub use reader::RecordCheck;
+pub use reader::RecordFault;
 pub use reader::RecordRead;
 pub use reader::check;
 pub use reader::read;

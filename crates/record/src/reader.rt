@@ -6,7 +6,7 @@ ghost use lib.ListN.{length};
 ghost use Rattle.flat.specs.Records.{markOk, entriesOk, cardEntryOk};
 ghost use Rattle.flat.specs.Faults.{recordReport, recordColumns};
 ghost use Rattle.record.specs.Reports.{checkReport};
-ghost use Rattle.record.specs.Tests.{stripsReport};
+use crate::tail::check_strips;
 use card::CardCheck;
 use card::CardFault;
 
@@ -84,26 +84,6 @@ fn card_entry_ok(file: &[u8]) -> bool
     at + len <= file.len()
 }
 
-// What is answered for a file of e entries whose card is good and has k and m.
-fn check_strips(file: &[u8], k: usize, m: usize, e: usize, l: usize) -> RecordCheck
-    requires { ⌜ (1 ≤ k) × (k ≤ 16) × (m ≤ 16) × (l ≤ 65536) × (10 + 10 * e ≤ length (now file)) ⌝ }
-    ensures { λ r. ⌜ checkReport r ≡ stripsReport (now (file .entry)) k m e l ⌝ }
-{
-    let n = k + m;
-    if e != n + 1 {
-        return RecordCheck::Bad(RecordFault::Contents);
-    }
-    let start = contents::strips_at(n, m);
-    let lost = contents::lost_in(file, n);
-    if !contents::entries_stand(file, start, l, lost, n) {
-        return RecordCheck::Bad(RecordFault::Contents);
-    }
-    if file.len() != contents::body_at(start, l, lost, n) {
-        return RecordCheck::Bad(RecordFault::FileLength);
-    }
-    RecordCheck::Good { k, m, l, lost }
-}
-
 // Whether the bytes are a record, and of what.
 pub fn check(file: &[u8]) -> RecordCheck
     ensures { λ r. ⌜ checkReport r ≡ recordReport (now (file .entry)) ⌝ }
@@ -126,7 +106,12 @@ pub fn check(file: &[u8]) -> RecordCheck
     let end = at + contents::number_4(file, 16);
     match card::check(&file[at..end]) {
         CardCheck::Bad(fault) => RecordCheck::Bad(RecordFault::Card(fault)),
-        CardCheck::Good { k, m } => check_strips(file, k, m, e, l),
+        CardCheck::Good { k, m } => {
+            if e != k + m + 1 {
+                return RecordCheck::Bad(RecordFault::Contents);
+            }
+            check_strips(file, k, m, l)
+        }
     }
 }
 

@@ -1,11 +1,13 @@
 // The record writer.
 ghost use mathlib.Core.Path.{_≡_};
-ghost use Prim.Native.Nat.{_+_, _*_, _^_, _<_, _≤_};
+ghost use mathlib.Core.List.{[]};
+ghost use Prim.Native.Nat.{_+_, _*_, _≤_};
+ghost use lib.Dec.{eqb};
 ghost use lib.ListN.{length};
-ghost use Rattle.flat.specs.Cards.{code, codeOf};
-ghost use Rattle.flat.specs.Records.{recordLength, recordBytes};
+ghost use Rattle.flat.specs.Cards.{code};
 ghost use Rattle.flat.specs.Faults.{unlessRefused, recordWriteReport, recordWriteOutput};
-ghost use Rattle.contents.specs.Places.{put};
+ghost use Rattle.contents.specs.Places.{put, bodyFrom};
+ghost use Rattle.record.specs.Layout.{recordFrom};
 ghost use Rattle.record.specs.Reports.{writtenReport};
 ghost use Rattle.record.specs.Tests.{written};
 use card::CardCheck;
@@ -59,7 +61,10 @@ fn decide(k: usize, m: usize, l: usize, lost: u32, size: usize, room: usize) -> 
 }
 
 // Puts the mark, the contents, the card and the bodies.
-fn put_record(card: &[u8], n: usize, l: usize, lost: u32, stripe: &[u8], out: &mut [u8]) {
+fn put_record(card: &[u8], n: usize, l: usize, lost: u32, stripe: &[u8], out: &mut [u8])
+    requires { ⌜ (n ≤ 32) × (l ≤ 65536) × (length (now card) ≤ 34) × (n * l ≤ length (now stripe)) × (bodyFrom (20 + 10 * n + length (now card)) l lost n ≤ length (now out)) ⌝ }
+    ensures { λ _. ⌜ now (out .exit) ≡ put (now (out .entry)) 0 (recordFrom (now (card .entry)) n l lost (now (stripe .entry))) ⌝ }
+{
     let bodies = 20 + 10 * n;
     let start = bodies + card.len();
     contents::copy(out, 0, b"FXC1");
@@ -81,7 +86,11 @@ fn write_good(
     lost: u32,
     stripe: &[u8],
     out: &mut [u8],
-) -> RecordWritten {
+) -> RecordWritten
+    requires { ⌜ (1 ≤ k) × (k ≤ 16) × (m ≤ 16) × (length (now card) ≡ 2 + 2 * m) ⌝ }
+    ensures { λ r. ⌜ writtenReport r ≡ written (code k m []) l lost (length (now (stripe .entry))) (length (now (out .entry))) ⌝ }
+    ensures { λ r. ⌜ now (out .exit) ≡ unlessRefused (writtenReport r) (put (now (out .entry)) 0 (recordFrom (now (card .entry)) (k + m) l lost (now (stripe .entry)))) (now (out .entry)) ⌝ }
+{
     let answer = decide(k, m, l, lost, stripe.len(), out.len());
     if accepts(answer) {
         put_record(card, k + m, l, lost, stripe, out);

@@ -1,6 +1,5 @@
 -- `contents::strip_entry` meets its contract. Assumes nothing.
-use mathlib.Core.Path.{_≡_, sym, ap, _∙_}
-use Rattle.gf2.specs.If.{if_then_else_}
+use mathlib.Core.Path.{sym}
 use Rattle.gf2.specs.Sets.{has}
 use Rattle.flat.specs.Records.{entry}
 use Rattle.contents.specs.Places.{stripEntryFrom}

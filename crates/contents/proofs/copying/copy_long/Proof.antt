@@ -1,12 +1,9 @@
 -- `contents::copying::copy_long` meets its contract: a run is copied block by block, and then its rest.
 -- Assumes nothing.
-use mathlib.Core.Path.{_≡_, sym, ap, _∙_, subst}
-use mathlib.Core.List.{List}
-use Prim.Native.Nat.{ℕ, _+_, _-_}
-use native.Mathlib.Omega.{arith}
-use lib.ListN.{length, take, drop}
+use mathlib.Core.Path.{_∙_}
+use Prim.Native.Nat.{_-_}
+use lib.ListN.{length}
 use Rattle.card.proofs.Laws.{rest}
-use Rattle.contents.specs.Places.{put}
 use Rattle.contents.proofs.Blocks.{Run, run-none, run-more, run-rest}
 use borrow.Author.Needs.{needs}
 use Rattle.contents.proofs.copying.copy_long.Statement.{statement}
