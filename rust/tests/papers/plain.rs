@@ -9,7 +9,7 @@ fn held(code: &Code, word: u32) -> u32 {
 }
 
 /// For each set of disks, whether two different data words agree on every disk outside it. All sets and
-/// all words are tried, so this is for codes of some 14 disks at the most.
+/// all words are tried, so this is for small codes alone.
 pub fn fatal_sets(code: &Code) -> Vec<bool> {
     let words: Vec<u32> = (0..1 << code.k).map(|word| held(code, word)).collect();
     let fatal = |lost: u32| {
@@ -72,7 +72,7 @@ fn holds_one(set: u32, list: &[u32]) -> bool {
 pub fn compare(code: &Code) {
     let listed = code.listed();
     assert_eq!(listed, list_by_words(code), "{:?}", code);
-    if code.n() <= 14 {
+    if code.n() + code.k <= 21 {
         let fatal = fatal_sets(code);
         assert_eq!(listed, literal_list(code, &fatal), "{:?}", code);
         for (set, &expected) in fatal.iter().enumerate() {
