@@ -106,8 +106,7 @@ fn equations_of_chain_codes_start_at_d_less_1() {
     for d in 3..=4 {
         for k in d..=9 {
             let code = chain(k, d);
-            let first: Vec<usize> =
-                (0..code.n()).map(|disk| code.equations(disk)[0].count_ones() as usize).collect();
+            let first: Vec<usize> = (0..code.n()).map(|disk| code.equations(disk)[0].count_ones() as usize).collect();
             assert_eq!(first, shortest_equations(&code), "{:?}", code);
             assert_eq!(first, vec![d - 1; code.n()], "{:?}", code);
         }

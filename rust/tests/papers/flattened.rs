@@ -1,5 +1,5 @@
 //! Document 002, section III-B: flattened array codes. Each word of an array of strips is put on a disk of
-//! its own, and the distance stays at least that of the array code.
+//! its own, which gives a flat code "with the same Hamming distance as the original array code".
 use crate::codes::{by_size, Code};
 use crate::graphs::cycles;
 use crate::plain::compare;
@@ -126,9 +126,7 @@ fn flattened_rdp() {
         assert_eq!((array.code.k, array.code.m()), ((p - 1) * (p - 1), 2 * (p - 1)));
         let lengths: Vec<usize> = array.code.columns.iter().map(|c| c.count_ones() as usize).collect();
         let of = |length: usize| lengths.iter().filter(|&&l| l == length).count();
-        if p == 5 {
-            assert_eq!((of(p - 1), of(2 * p - 3)), (p, p - 2));
-        }
+        assert_eq!((of(p - 1), of(2 * p - 3)), (p, p - 2));
         tolerates_two_strips(&array);
     }
     assert_eq!((row_diagonal(5).code.k, row_diagonal(5).code.m()), (16, 8));

@@ -16,7 +16,9 @@ pub struct Row {
 }
 
 macro_rules! rows {
-    ($($k:literal $m:literal | $c:literal $v:literal $w:literal | $($x:literal),+ | ($($e:literal),+) $d:literal;)+) => {
+    ($(
+        $k:literal $m:literal | $c:literal $v:literal $w:literal | $($x:literal),+ | ($($e:literal),+) $d:literal;
+    )+) => {
         &[$(Row { k: $k, m: $m, counts: [$c, $v, $w], columns: &[$($x),+], mev: &[$($e),+], d: $d }),+]
     };
 }
@@ -67,7 +69,7 @@ pub const ROWS: &[Row] = rows![
 /// The rows with m > k: k, m, and the vector by brute force over document 01's definitions, which none of
 /// these rows prints. Printed are all entries of size up to k, but of the larger ones only the base
 /// erasures, those with one data disk (see `counted_as_printed`), although 000's section 2 asks for all
-/// up to size m, as document 01 does. Which columns (d*) change with it is said at the row.
+/// up to size m, as document 01 does. Where d* is another too, the row says so.
 #[rustfmt::skip]
 const MORE_PARITY: &[(usize, usize, &[usize])] = &[
     (2, 3, &[0, 0, 2]),                // printed 0 0 1

@@ -6,7 +6,11 @@ use crate::plain::compare;
 fn named(names: &str) -> u32 {
     let disk = |name: &str| {
         let number: u32 = name[1..].parse().unwrap();
-        if name.starts_with('s') { number - 1 } else { number + 3 }
+        if name.starts_with('s') {
+            number - 1
+        } else {
+            number + 3
+        }
     };
     names.split(' ').map(|name| 1 << disk(name)).sum()
 }
@@ -70,6 +74,16 @@ fn the_erasure_patterns_of_section_3_4() {
     let up_to_m: Vec<u32> = (1..256).filter(|&set| size(set) <= 4).collect();
     assert_eq!(up_to_m.len(), 162);
     assert_eq!(up_to_m.iter().filter(|&&set| code.is_fatal(set)).count(), 29);
+}
+
+/// Document 000, section 4.2, on the bitmaps of Table 3: "7, 11, 13" means that the parities are the XORs of
+/// s1, s2 and s3, of s1, s2 and s4, and of s1, s3 and s4, so the data disks' lowest bit is s1's.
+#[test]
+fn the_bitmaps_of_section_4_2() {
+    let code = Code::new(4, &[7, 11, 13]);
+    for (parity, data) in [(4, "s1 s2 s3"), (5, "s1 s2 s4"), (6, "s1 s3 s4")] {
+        assert!(code.equations(parity).contains(&named(data)));
+    }
 }
 
 /// Document 000, section 4.2, on the rows that Table 3 leaves out. "Replication has no erasure patterns ..
