@@ -68,7 +68,7 @@ fn holds_one(set: u32, list: &[u32]) -> bool {
 }
 
 /// The engine's list against the second method, order included; where the code is small also list and
-/// verdicts against the definitions.
+/// verdicts against the definitions. With few parity disks, the equations of all disks too.
 pub fn compare(code: &Code) {
     let listed = code.listed();
     assert_eq!(listed, list_by_words(code), "{:?}", code);
@@ -79,15 +79,40 @@ pub fn compare(code: &Code) {
             assert_eq!(code.is_fatal(set as u32), expected, "{:?}, set {}", code, set);
         }
     }
+    if code.m() <= 8 {
+        let zero_sets = zero_sets(code);
+        for disk in 0..code.n() {
+            assert_eq!(code.equations(disk), equations_by_checks(disk, &zero_sets), "{:?}, disk {}", code, disk);
+        }
+    }
 }
 
-/// The size of the smallest equation of each disk. The sets of disks whose XOR is 0 for every data word
-/// are the XORs of checks, a check being a parity disk with its data disks; an equation is such a set
-/// without its disk.
-pub fn shortest_equations(code: &Code) -> Vec<usize> {
+/// The sets of disks, other than the empty one, whose XOR is 0 for every data word: the XORs of checks, a
+/// check being a parity disk with its data disks.
+fn zero_sets(code: &Code) -> Vec<u32> {
     let check = |j: usize| u32::from(code.columns[j]) | 1 << (code.k + j);
-    let checks = |choice: u32| (0..code.m()).filter(|j| choice >> j & 1 == 1).fold(0, |set, j| set ^ check(j));
-    let zero: Vec<u32> = (1..1 << code.m()).map(checks).collect();
-    let shortest = |disk: usize| zero.iter().filter(|&set| set >> disk & 1 == 1).map(|&set| size(set) - 1).min();
-    (0..code.n()).map(|disk| shortest(disk).expect("every disk is in a check")).collect()
+    let chosen = |choice: u32| (0..code.m()).filter(|j| choice >> j & 1 == 1).fold(0, |set, j| set ^ check(j));
+    (1..1 << code.m()).map(chosen).collect()
+}
+
+/// The equations of a disk: the zero sets that hold it, without it, of which those that hold no other are
+/// kept; smaller size first, then smaller number.
+fn equations_by_checks(disk: usize, zero_sets: &[u32]) -> Vec<u32> {
+    let with = zero_sets.iter().filter(|&set| set >> disk & 1 == 1);
+    let mut equations: Vec<u32> = with.map(|set| set & !(1 << disk)).collect();
+    equations.sort_by_key(|&set| (size(set), set));
+    let mut kept: Vec<u32> = Vec::new();
+    for equation in equations {
+        if !holds_one(equation, &kept) {
+            kept.push(equation);
+        }
+    }
+    kept
+}
+
+/// The size of the smallest equation of each disk.
+pub fn shortest_equations(code: &Code) -> Vec<usize> {
+    let zero_sets = zero_sets(code);
+    let with = |disk: usize| zero_sets.iter().filter(move |&set| set >> disk & 1 == 1);
+    (0..code.n()).map(|disk| with(disk).map(|&set| size(set) - 1).min().expect("a check with the disk")).collect()
 }
