@@ -79,8 +79,9 @@ fn any_strip_len(chance: &mut Chance) -> usize {
 /// A stripe's length: right three times in four.
 fn any_stripe_len(chance: &mut Chance, n: usize, strip_len: usize) -> usize {
     let right = n.wrapping_mul(strip_len);
-    if right > 1 << 22 {
-        return chance.pick(&[0, n, right % 256, right % 65536]);
+    if strip_len > 1 << 17 {
+        // also what the product is in 16 bits; in 64 bits that is what it is where the length is near 2^62 or 2^63
+        return chance.pick(&[0, n, right % 65536]);
     }
     match chance.below(4) {
         0 => chance.pick(&[
@@ -112,8 +113,9 @@ fn faults() {
         }
         let strip_len = any_strip_len(chance);
         let stripe_len = any_stripe_len(chance, n, strip_len);
+        let right = (1..=65536).contains(&strip_len) && stripe_len == n * strip_len;
         let stripe = match &code {
-            Ok(code) if stripe_len == n * strip_len && chance.one_in(2) => any_stripe(chance, code, strip_len, lost),
+            Ok(code) if right && !chance.one_in(4) => any_stripe(chance, code, strip_len, lost),
             _ => chance.bytes(stripe_len),
         };
         try_both(&mut check, &card, &code, strip_len, lost, &stripe);

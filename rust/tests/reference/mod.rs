@@ -52,18 +52,14 @@ impl Code {
     }
 }
 
-/// What a disk holds for a data word: a data disk its own bit, a parity disk the XOR of the bits of its data disks.
-fn holds(k: usize, columns: &[u16], word: u32, disk: usize) -> u32 {
-    if disk < k {
-        return word >> disk & 1;
+/// What the disks hold for a data word: a data disk its own bit, a parity disk the XOR of the bits of its data disks, which
+/// is 1 where an odd number of them is 1.
+fn word_held(k: usize, columns: &[u16], word: u32) -> u32 {
+    let mut disks = word;
+    for (j, &column) in columns.iter().enumerate() {
+        disks |= (word & u32::from(column)).count_ones() % 2 << (k + j);
     }
-    let column = u32::from(columns[disk - k]);
-    (0..k).filter(|i| column >> i & 1 == 1).fold(0, |sum, i| sum ^ (word >> i & 1))
-}
-
-fn all_held(k: usize, columns: &[u16]) -> Vec<u32> {
-    let word_held = |word| (0..k + columns.len()).map(|disk| holds(k, columns, word, disk) << disk).sum();
-    (0..1 << k).map(word_held).collect()
+    disks
 }
 
 /// Refusals 2 to 5 of a card or of what a card is to be written from; `right_len` is what 4 is about.
@@ -83,7 +79,7 @@ fn check(k: usize, m: usize, right_len: bool, columns: &[u16]) -> Result<(), Ref
     }
 }
 
-/// The card reader without what the disks hold: k, m and the columns.
+/// The card reader: k, m and the columns.
 pub fn read_card(card: &[u8]) -> Result<(usize, usize, Vec<u16>), Refusal> {
     if card.len() < 2 {
         return refusal(1);
@@ -108,11 +104,17 @@ pub fn write_card(k: usize, m: usize, columns: &[u16], out_len: usize) -> Result
     Ok(card)
 }
 
+/// The card's code without what its disks hold, or its refusal.
+pub fn outline(card: &[u8]) -> Result<Code, Refusal> {
+    let (k, m, columns) = read_card(card)?;
+    Ok(Code { k, m, columns, held: Vec::new() })
+}
+
 /// The card's code, or its refusal.
 pub fn code(card: &[u8]) -> Result<Code, Refusal> {
-    let (k, m, columns) = read_card(card)?;
-    let held = all_held(k, &columns);
-    Ok(Code { k, m, columns, held })
+    let mut code = outline(card)?;
+    code.held = (0..1 << code.k).map(|word| word_held(code.k, &code.columns, word)).collect();
+    Ok(code)
 }
 
 /// The verdict call.

@@ -47,19 +47,22 @@ pub fn equations(code: &Code, disk: usize) -> Vec<u32> {
 
 /// The data words, ordered by what the survivors hold for them.
 pub struct Agreeing {
-    by_left: Vec<(u32, usize)>,
+    /// What the survivors hold, then the word, as one number.
+    by_left: Vec<u64>,
 }
 
 impl Agreeing {
     pub fn new(code: &Code, lost: u32) -> Agreeing {
-        let mut by_left: Vec<(u32, usize)> = code.held.iter().map(|held| held & !lost).zip(0..).collect();
+        let left = code.held.iter().map(|held| u64::from(held & !lost));
+        let mut by_left: Vec<u64> = left.zip(0..).map(|(left, word)| left << 32 | word).collect();
         by_left.sort_unstable();
         Agreeing { by_left }
     }
 
     /// The data words for which the survivors hold these bits; there are none on other disks.
     pub fn words(&self, bits: u32) -> Vec<usize> {
-        let start = self.by_left.partition_point(|&(left, _)| left < bits);
-        self.by_left[start..].iter().take_while(|&&(left, _)| left == bits).map(|&(_, word)| word).collect()
+        let start = self.by_left.partition_point(|both| both >> 32 < u64::from(bits));
+        let here = self.by_left[start..].iter().take_while(|&both| both >> 32 == u64::from(bits));
+        here.map(|both| (both & 0xffff_ffff) as usize).collect()
     }
 }

@@ -1,6 +1,6 @@
 //! The record file: its bytes one after the other, and its faults in the order that document 01 gives them.
 
-use super::{code, read_card, refusal, strips, Refusal};
+use super::{outline, read_card, refusal, strips, Refusal};
 use std::ops::Range;
 
 const MARK: [u8; 4] = [0x46, 0x58, 0x43, 0x31];
@@ -38,7 +38,7 @@ fn entry(kind: u8, disk: usize, offset: usize, length: usize) -> Vec<u8> {
 
 /// The writer: the record's bytes.
 pub fn write(card: &[u8], strip_len: usize, lost: u32, stripe: &[u8], out_len: usize) -> Result<Vec<u8>, Refusal> {
-    let code = code(card)?;
+    let code = outline(card)?;
     strips::check(&code, strip_len, lost, stripe.len())?;
     let entries = code.n() + 1;
     let mut record = [&MARK[..], &low_first(strip_len, 4), &low_first(entries, 2)].concat();

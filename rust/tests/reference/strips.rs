@@ -1,6 +1,6 @@
 //! Encoding and rebuilding: eight data words for each place of the strips, one for each bit of a byte.
 
-use super::{code, literal, quick, refusal, verdict, Code, Refusal};
+use super::{code, literal, outline, quick, refusal, verdict, Code, Refusal};
 
 /// Refusals 6, 8 and 7.
 pub fn check(code: &Code, strip_len: usize, lost: u32, stripe_len: usize) -> Result<(), Refusal> {
@@ -35,7 +35,7 @@ pub fn encoded(code: &Code, strip_len: usize, stripe: &[u8]) -> Vec<u8> {
 
 /// The encoder: the stripe afterwards.
 pub fn encode(card: &[u8], strip_len: usize, stripe: &[u8]) -> Result<Vec<u8>, Refusal> {
-    let code = code(card)?;
+    let code = outline(card)?;
     check(&code, strip_len, 0, stripe.len())?;
     Ok(encoded(&code, strip_len, stripe))
 }

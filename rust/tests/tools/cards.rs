@@ -56,9 +56,10 @@ pub fn random_card_of(chance: &mut Chance, k: usize, m: usize) -> Vec<u8> {
     card_of(k, m, &random_columns(chance, k, m))
 }
 
-/// A card of any k and m.
+/// A card of any k and m; the largest k, for which the reference takes long, come up less often.
 pub fn random_card(chance: &mut Chance) -> Vec<u8> {
-    let (k, m) = (1 + chance.below(16), 1 + chance.below(16));
+    let largest = if chance.one_in(8) { 16 } else { 12 };
+    let (k, m) = (1 + chance.below(largest), 1 + chance.below(16));
     random_card_of(chance, k, m)
 }
 

@@ -6,3 +6,4 @@ pub mod cards;
 pub mod chance;
 pub mod check;
 pub mod lent;
+pub mod records;
