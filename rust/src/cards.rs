@@ -1,0 +1,66 @@
+//! The calls on cards alone.
+
+use crate::{ffi, Error};
+
+/// What a card says.
+#[derive(Debug, Clone, Copy, PartialEq, Eq)]
+pub struct Card {
+    /// The number of data disks, 1 to 16.
+    pub k: usize,
+    /// The number of parity disks, 1 to 16.
+    pub m: usize,
+    /// The m columns, then zeros.
+    pub columns: [u16; 16],
+}
+
+/// Takes a card; answers k, m and the columns.
+///
+/// Refuses 1 to 5. Writes nothing.
+///
+/// ```
+/// use bridgecrumb::{read_card, Error};
+/// // C11 of document 01
+/// let card = read_card(&[0x02, 0x01, 0x03, 0x00])?;
+/// assert_eq!((card.k, card.m, card.columns[0]), (2, 1, 3));
+/// assert_eq!(read_card(&[0x02, 0x01, 0x04, 0x00]), Err(Error::Column(0)));
+/// # Ok::<(), Error>(())
+/// ```
+pub fn read_card(card: &[u8]) -> Result<Card, Error> {
+    let mut counts = [0; 2];
+    let mut columns = [0; 16];
+    ffi::card_read(card, &mut counts, &mut columns)?;
+    let [k, m] = counts;
+    Ok(Card { k, m, columns })
+}
+
+/// Takes k, m, the m columns and a buffer of exactly 2 + 2m bytes; writes the card into the buffer.
+///
+/// Refuses 2, 3, then 4 where there are not m columns, 5, then 7 where the buffer has another length. A
+/// refused call writes nothing.
+///
+/// ```
+/// // C6 of document 01
+/// let mut card = [0; 4];
+/// bridgecrumb::write_card(2, 1, &[1], &mut card)?;
+/// assert_eq!(card, [0x02, 0x01, 0x01, 0x00]);
+/// # Ok::<(), bridgecrumb::Error>(())
+/// ```
+pub fn write_card(k: usize, m: usize, columns: &[u16], out: &mut [u8]) -> Result<(), Error> {
+    ffi::card_write(k, m, columns, out)?;
+    Ok(())
+}
+
+/// Takes two cards; answers whether they have the same k, m and vector of minimal erasures.
+///
+/// Refuses 1 to 5, the first card's faults before the second's. Writes nothing.
+///
+/// ```
+/// // C6 of document 01, and the same code with its data disks swapped; C3 has another m
+/// let (c6, swapped, c3) = ([2, 1, 1, 0], [2, 1, 2, 0], [2, 2, 1, 0, 2, 0]);
+/// assert!(bridgecrumb::alike(&c6, &swapped)?);
+/// assert!(!bridgecrumb::alike(&c6, &c3)?);
+/// # Ok::<(), bridgecrumb::Error>(())
+/// ```
+pub fn alike(first: &[u8], second: &[u8]) -> Result<bool, Error> {
+    Ok(ffi::alike(first, second)? == 1)
+}

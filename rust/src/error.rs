@@ -1,0 +1,109 @@
+//! The refusals.
+
+use std::fmt;
+
+/// Why a call was refused: document 01's refusals 1 to 16, in order.
+#[derive(Debug, Clone, Copy, PartialEq, Eq)]
+pub enum Error {
+    /// 1: the card is shorter than 2 bytes.
+    CardShort,
+    /// 2: k is outside 1 to 16.
+    DataCount,
+    /// 3: m is outside 1 to 16.
+    ParityCount,
+    /// 4: the card's length is not 2 + 2m; for the card writer, the list has not m columns.
+    CardLength,
+    /// 5: a column is 0 or at least 2^k; carries the first such column's number.
+    Column(usize),
+    /// 6: the strip length is outside 1 to 65,536.
+    StripLength,
+    /// 7: a stripe or a card buffer has another length than it must have.
+    BufferLength,
+    /// 8: the set holds a disk that the code lacks.
+    OutsideSet,
+    /// 9: the code lacks the disk.
+    NoDisk,
+    /// 10: the list is longer than the lent slice; carries the count that is needed.
+    ListShort(usize),
+    /// 11: the loss of the set is fatal.
+    Fatal,
+    /// 12: no data encodes to what the surviving disks have.
+    Inconsistent,
+    /// 13: the file is shorter than 10 bytes, or begins with another mark.
+    Mark,
+    /// 14: the file's contents are not those of a record.
+    Contents,
+    /// 15: the file has another length than its record.
+    FileLength,
+    /// 16: the output is shorter than the record, or the disk whose body is wanted is lost.
+    NoRoom,
+}
+
+impl Error {
+    /// Document 01's number of the refusal, 1 to 16.
+    ///
+    /// ```
+    /// assert_eq!(bridgecrumb::Error::Fatal.number(), 11);
+    /// ```
+    pub fn number(&self) -> u8 {
+        match self {
+            Error::CardShort => 1,
+            Error::DataCount => 2,
+            Error::ParityCount => 3,
+            Error::CardLength => 4,
+            Error::Column(_) => 5,
+            Error::StripLength => 6,
+            Error::BufferLength => 7,
+            Error::OutsideSet => 8,
+            Error::NoDisk => 9,
+            Error::ListShort(_) => 10,
+            Error::Fatal => 11,
+            Error::Inconsistent => 12,
+            Error::Mark => 13,
+            Error::Contents => 14,
+            Error::FileLength => 15,
+            Error::NoRoom => 16,
+        }
+    }
+
+    /// What the refusal answers beside its number: the column of 5, the count needed of 10. The others answer
+    /// nothing.
+    ///
+    /// ```
+    /// // C12 of document 01: C3's list has two entries
+    /// let refused = bridgecrumb::minimal_erasures(&[2, 2, 1, 0, 2, 0], &mut [0; 1]).unwrap_err();
+    /// assert_eq!((refused.number(), refused.value()), (10, Some(2)));
+    /// ```
+    pub fn value(&self) -> Option<usize> {
+        match *self {
+            Error::Column(column) => Some(column),
+            Error::ListShort(needed) => Some(needed),
+            _ => None,
+        }
+    }
+}
+
+impl fmt::Display for Error {
+    fn fmt(&self, out: &mut fmt::Formatter<'_>) -> fmt::Result {
+        match self {
+            Error::CardShort => out.write_str("the card is shorter than 2 bytes"),
+            Error::DataCount => out.write_str("the number of data disks is outside 1 to 16"),
+            Error::ParityCount => out.write_str("the number of parity disks is outside 1 to 16"),
+            Error::CardLength => out.write_str("the card has not one column for each parity disk"),
+            Error::Column(column) => write!(out, "column {column} is empty or has a data disk that the code lacks"),
+            Error::StripLength => out.write_str("the strip length is outside 1 to 65,536"),
+            Error::BufferLength => out.write_str("the stripe or card buffer has another length than it must have"),
+            Error::OutsideSet => out.write_str("the set holds a disk that the code lacks"),
+            Error::NoDisk => out.write_str("the code lacks the disk"),
+            Error::ListShort(needed) => write!(out, "the lent slice is too short, {needed} entries are needed"),
+            Error::Fatal => out.write_str("the loss of the set is fatal"),
+            Error::Inconsistent => out.write_str("no data encodes to what the surviving disks have"),
+            Error::Mark => out.write_str("the file does not begin as a record does"),
+            Error::Contents => out.write_str("the file's contents are not those of a record"),
+            Error::FileLength => out.write_str("the file has another length than its record"),
+            Error::NoRoom => out.write_str("the output is shorter than the record, or the disk is lost"),
+        }
+    }
+}
+
+impl std::error::Error for Error {}

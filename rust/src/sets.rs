@@ -1,0 +1,66 @@
+//! The calls on sets of disks: which losses are fatal, and which disks tell a disk.
+
+use crate::{ffi, Error};
+
+/// What the lister answers.
+#[derive(Debug, Clone, Copy, PartialEq, Eq)]
+pub struct Listing {
+    /// How many minimal erasures there are: so many entries of the slice were written.
+    pub count: usize,
+    /// Place i - 1 has how many of them hold i disks, for i from 1 to m; the other places are 0.
+    pub vector: [usize; 17],
+}
+
+/// Takes a card and a set of disks; answers whether the loss of the set is fatal: two different data words
+/// agree on all other disks.
+///
+/// Refuses 1 to 5, then 8. Writes nothing.
+///
+/// ```
+/// // C1 and C8 of document 01
+/// let card = [4, 3, 7, 0, 11, 0, 13, 0];
+/// assert!(bridgecrumb::is_fatal(&card, 14)?);
+/// assert!(bridgecrumb::is_fatal(&card, 127)?);
+/// assert!(!bridgecrumb::is_fatal(&card, 7)?);
+/// # Ok::<(), bridgecrumb::Error>(())
+/// ```
+pub fn is_fatal(card: &[u8], set: u32) -> Result<bool, Error> {
+    Ok(ffi::verdict(card, set)? == 1)
+}
+
+/// Takes a card and a slice; writes all minimal erasures (the fatal sets with no smaller fatal set inside) at
+/// the slice's front, smaller size first, then smaller data part (the set number modulo 2^k). Answers
+/// their count and their vector. Entries past the count keep what they had.
+///
+/// Refuses 1 to 5, then 10 where the slice is shorter than the count. A refused call writes nothing.
+///
+/// ```
+/// // C1 of document 01
+/// let mut list = [0; 16];
+/// let told = bridgecrumb::minimal_erasures(&[4, 3, 7, 0, 11, 0, 13, 0], &mut list)?;
+/// assert_eq!(list[..told.count], [50, 67, 84, 37, 104, 25, 14, 113, 102, 23, 90, 43, 60, 77]);
+/// assert_eq!(told.vector[..3], [0, 0, 7]);
+/// # Ok::<(), bridgecrumb::Error>(())
+/// ```
+pub fn minimal_erasures(card: &[u8], out: &mut [u32]) -> Result<Listing, Error> {
+    let mut vector = [0; 17];
+    let count = ffi::list(card, out, &mut vector)?;
+    Ok(Listing { count, vector })
+}
+
+/// Takes a card, a disk and a slice; writes the disk's recovery equations (the sets without the disk whose XOR
+/// is the disk) with no smaller one inside at the slice's front, smaller size first, then smaller set
+/// number. Answers their count. Entries past the count keep what they had.
+///
+/// Refuses 1 to 5, then 9, then 10 where the slice is shorter than the count. A refused call writes nothing.
+///
+/// ```
+/// // C2 of document 01
+/// let mut list = [0; 4];
+/// assert_eq!(bridgecrumb::equations(&[4, 3, 7, 0, 11, 0, 13, 0], 0, &mut list)?, 4);
+/// assert_eq!(list, [22, 42, 76, 112]);
+/// # Ok::<(), bridgecrumb::Error>(())
+/// ```
+pub fn equations(card: &[u8], disk: usize, out: &mut [u32]) -> Result<usize, Error> {
+    ffi::equations(card, disk, out)
+}

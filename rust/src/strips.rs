@@ -1,0 +1,43 @@
+//! The calls on stripes.
+
+use crate::{ffi, Error};
+
+/// Takes a card, the strips' length and a stripe; writes the m parity strips, each byte the XOR of the same
+/// byte of its data disks. The data strips keep their bytes.
+///
+/// Refuses 1 to 5, then 6, then 7 where the stripe's length is not `n * strip_len`. A refused call writes
+/// nothing.
+///
+/// ```
+/// // C7 of document 01
+/// let mut stripe = [0x11, 0x22, 0x44, 0x88, 0, 0, 0];
+/// bridgecrumb::encode(&[4, 3, 7, 0, 11, 0, 13, 0], 1, &mut stripe)?;
+/// assert_eq!(stripe, [0x11, 0x22, 0x44, 0x88, 0x77, 0xBB, 0xDD]);
+/// # Ok::<(), bridgecrumb::Error>(())
+/// ```
+pub fn encode(card: &[u8], strip_len: usize, stripe: &mut [u8]) -> Result<(), Error> {
+    ffi::encode(card, strip_len, stripe)?;
+    Ok(())
+}
+
+/// Takes a card, the strips' length, the set of lost disks and a stripe; writes the lost strips, those of the
+/// only data that encodes to what the surviving disks have. These keep their bytes. Answers how many disks
+/// are lost. The bytes of lost strips before the call have no effect; with nothing lost this is a check.
+///
+/// Refuses 1 to 5, then 6, then 8, then 7 where the stripe's length is not `n * strip_len`, then 11 where the
+/// loss of the set is fatal, then 12 where no data encodes to what the surviving disks have. A refused
+/// call writes nothing.
+///
+/// ```
+/// use bridgecrumb::{rebuild, Error};
+/// let card = [4, 3, 7, 0, 11, 0, 13, 0];
+/// // C8, C9 and C10 of document 01
+/// let mut stripe = [0, 0, 0, 0x88, 0x77, 0xBB, 0xDD];
+/// assert_eq!(rebuild(&card, 1, 7, &mut stripe), Ok(3));
+/// assert_eq!(stripe, [0x11, 0x22, 0x44, 0x88, 0x77, 0xBB, 0xDD]);
+/// assert_eq!(rebuild(&card, 1, 1, &mut [0, 0x22, 0x44, 0x88, 0x77, 0xBB, 0xDC]), Err(Error::Inconsistent));
+/// assert_eq!(rebuild(&card, 1, 14, &mut stripe), Err(Error::Fatal));
+/// ```
+pub fn rebuild(card: &[u8], strip_len: usize, lost: u32, stripe: &mut [u8]) -> Result<usize, Error> {
+    ffi::rebuild(card, strip_len, lost, stripe)
+}
