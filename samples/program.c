@@ -5,37 +5,29 @@
 #include "bridgecrumb.h"
 
 /* the value of an accepted call; a refusal ends the program */
-static unsigned accepted(uint64_t answer)
+static size_t accepted(uint64_t answer)
 {
-    if (BRIDGECRUMB_NUMBER(answer) != BRIDGECRUMB_ACCEPTED) {
-        printf("refused %u\n", BRIDGECRUMB_NUMBER(answer));
-        exit(1);
-    }
-    return (unsigned)BRIDGECRUMB_VALUE(answer);
-}
-
-static void print_bytes(const char *name, const uint8_t *bytes, size_t count)
-{
-    printf("%s:", name);
-    for (size_t i = 0; i < count; i++)
-        printf(" 0x%02X", bytes[i]);
-    printf("\n");
+    if (BRIDGECRUMB_NUMBER(answer) != BRIDGECRUMB_ACCEPTED)
+        exit((int)BRIDGECRUMB_NUMBER(answer));
+    return BRIDGECRUMB_VALUE(answer);
 }
 
 int main(void)
 {
     static const uint8_t card[] = {4, 3, 7, 0, 11, 0, 13, 0};  /* k, m, three columns */
     uint8_t stripe[7] = {0x11, 0x22, 0x44, 0x88}, record[200]; /* strips of one byte */
-    size_t place[2];
+    size_t length, place[2];
+
     accepted(bridgecrumb_encode(card, sizeof card, 1, stripe, sizeof stripe));
-    print_bytes("encoded", stripe, sizeof stripe);
+    printf("parity: 0x%02X 0x%02X 0x%02X\n", stripe[4], stripe[5], stripe[6]);
+
     stripe[0] = stripe[1] = stripe[2] = 0; /* set 7 is lost */
-    printf("fatal: set 7 %u, set 14 %u\n", accepted(bridgecrumb_verdict(card, sizeof card, 7)), accepted(bridgecrumb_verdict(card, sizeof card, 14)));
-    printf("restored: %u\n", accepted(bridgecrumb_rebuild(card, sizeof card, 1, 7, stripe, sizeof stripe)));
-    print_bytes("rebuilt", stripe, sizeof stripe);
-    size_t length = accepted(bridgecrumb_record_write(card, sizeof card, 1, 0, stripe, sizeof stripe, record, sizeof record));
+    printf("set 7 is %s\n", accepted(bridgecrumb_verdict(card, sizeof card, 7)) ? "fatal" : "not fatal");
+    printf("restored: %u disks\n", (unsigned)accepted(bridgecrumb_rebuild(card, sizeof card, 1, 7, stripe, sizeof stripe)));
+    printf("data: 0x%02X 0x%02X 0x%02X 0x%02X\n", stripe[0], stripe[1], stripe[2], stripe[3]);
+
+    length = accepted(bridgecrumb_record_write(card, sizeof card, 1, 0, stripe, sizeof stripe, record, sizeof record));
     accepted(bridgecrumb_record_body(record, length, 3, place));
-    printf("record: %u bytes, disk 3's strip at %u\n", (unsigned)length, (unsigned)place[0]);
-    print_bytes("strip", record + place[0], place[1]);
+    printf("record: %u bytes, disk 3's strip at %u: 0x%02X\n", (unsigned)length, (unsigned)place[0], record[place[0]]);
     return 0;
 }
