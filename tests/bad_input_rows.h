@@ -201,6 +201,7 @@ static const struct damage damages[] = {
     {91, BYTES_OF("\4"), 4, "m = 4"},
     {16, BYTES_OF("\16\0\0\0"), 4, "the card's length reaches the end"},
     {94, BYTES_OF("\0\0\0\0"), 5 + 256 * 1, "columns 1 and 2 are 0"},
+    {90, BYTES_OF("\5\3\0\0"), 5 + 256 * 0, "column 0 is 0, before E is not n + 1"},
     {90, BYTES_OF("\5"), 14, "E is not n + 1"},
     {20, BYTES_OF("\3"), 14, "kind 3"},
     {21, BYTES_OF("\1"), 14, "another disk"},
