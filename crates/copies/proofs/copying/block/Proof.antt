@@ -1,13 +1,13 @@
--- `contents::copying::block` meets its contract: a table is stored place by place.
+-- `copies::copying::block` meets its contract: a table is stored place by place.
 -- Assumes nothing.
 use mathlib.Core.Path.{refl, _∙_}
 use Prim.Native.Nat.{_+_, _-_, _≤_}
 use lib.ListN.{getD}
 use Rattle.blocks.proofs.Loops.{Table, table-none, table-more, table-all}
-use Rattle.contents.proofs.Blocks.{block-bytes}
+use Rattle.copies.proofs.Blocks.{block-bytes}
 use borrow.Author.Needs.{needs}
-use Rattle.contents.proofs.copying.block.Statement.{statement}
-use Rattle.contents.proofs.copying.block.Tie as tie
+use Rattle.copies.proofs.copying.block.Statement.{statement}
+use Rattle.copies.proofs.copying.block.Tie as tie
 
 abbrev Inv-loop : tie.InvT-loop
 Inv-loop s at out₀ t₀ out t = (t ≤ 4096) × Table (λ j. getD s (at + j) 0) 4096 t out

@@ -8,8 +8,8 @@ use lib.ListN.{length, getD, take, drop, length-drop, take-append-drop}
 use lib.Seq.{ext-getD, getD-take, getD-drop, length-take-le, take-add, paste}
 use Rattle.flat.specs.Lists.{tabulate}
 use Rattle.flat.proofs.Lists.{length-tabulate, getD-tabulate}
-use Rattle.contents.specs.Places.{put}
-use Rattle.contents.proofs.Putting.{put-paste, put-none, length-put, put-next}
+use Rattle.copies.specs.Put.{put}
+use Rattle.copies.proofs.Putting.{put-paste, put-none, length-put, put-next}
 
 -- the bytes of a slice from a place on, one by one
 pub block-bytes : (s : List ℕ) (at n : ℕ) → at + n ≤ length s → tabulate n (λ t. getD s (at + t) 0) ≡ take n (drop at s)

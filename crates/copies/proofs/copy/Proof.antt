@@ -1,13 +1,13 @@
--- `contents::copy` meets its contract: a copy is made byte by byte.
+-- `copies::copy` meets its contract: a copy is made byte by byte.
 -- Assumes nothing.
 use mathlib.Core.Path.{_≡_, refl, _∙_}
 use Prim.Native.Nat.{_-_, _≤_}
 use lib.ListN.{length}
 use Rattle.blocks.proofs.Loops.{Copied, copied-none, copied-more, copied-all}
-use Rattle.contents.proofs.Putting.{put-paste}
+use Rattle.copies.proofs.Putting.{put-paste}
 use borrow.Author.Needs.{needs}
-use Rattle.contents.proofs.copy.Statement.{statement}
-use Rattle.contents.proofs.copy.Tie as tie
+use Rattle.copies.proofs.copy.Statement.{statement}
+use Rattle.copies.proofs.copy.Tie as tie
 
 abbrev Inv-loop : tie.InvT-loop
 Inv-loop out₀ at new t₀ t-end out t = (t ≤ length new) × (t-end ≡ length new) × Copied out₀ new at t out

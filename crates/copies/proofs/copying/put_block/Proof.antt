@@ -1,12 +1,12 @@
--- `contents::copying::put_block` meets its contract: a copy is made byte by byte.
+-- `copies::copying::put_block` meets its contract: a copy is made byte by byte.
 -- Assumes nothing.
 use mathlib.Core.Path.{_≡_, refl, _∙_}
 use Prim.Native.Nat.{_-_, _≤_}
 use Rattle.blocks.proofs.Loops.{Copied, copied-none, copied-more, copied-all}
-use Rattle.contents.proofs.Blocks.{block-put}
+use Rattle.copies.proofs.Blocks.{block-put}
 use borrow.Author.Needs.{needs}
-use Rattle.contents.proofs.copying.put_block.Statement.{statement}
-use Rattle.contents.proofs.copying.put_block.Tie as tie
+use Rattle.copies.proofs.copying.put_block.Statement.{statement}
+use Rattle.copies.proofs.copying.put_block.Tie as tie
 
 abbrev Inv-loop : tie.InvT-loop
 Inv-loop s₀ at block t₀ s t = (t ≤ 4096) × Copied s₀ block at t s

@@ -1,13 +1,13 @@
--- `contents::copying::copy_long` meets its contract: a run is copied block by block, and then its rest.
+-- `copies::copying::copy_long` meets its contract: a run is copied block by block, and then its rest.
 -- Assumes nothing.
 use mathlib.Core.Path.{_∙_}
 use Prim.Native.Nat.{_-_}
 use lib.ListN.{length}
 use Rattle.card.proofs.Laws.{rest}
-use Rattle.contents.proofs.Blocks.{Run, run-none, run-more, run-rest}
+use Rattle.copies.proofs.Blocks.{Run, run-none, run-more, run-rest}
 use borrow.Author.Needs.{needs}
-use Rattle.contents.proofs.copying.copy_long.Statement.{statement}
-use Rattle.contents.proofs.copying.copy_long.Tie as tie
+use Rattle.copies.proofs.copying.copy_long.Statement.{statement}
+use Rattle.copies.proofs.copying.copy_long.Tie as tie
 
 abbrev Inv-loop : tie.InvT-loop
 Inv-loop out₀ at new o₀ out o = Run out₀ new at o out
