@@ -4,7 +4,7 @@
 // A record's layout is said in flat/specs/Records.antt. `start` is everywhere where the first strip's
 // body goes, after contents and card. Each contract says what is assumed of the arguments.
 ghost use mathlib.Core.Path.{_≡_};
-ghost use Prim.Native.Nat.{ℕ, _+_, _*_, _%_, _<_, _≤_};
+ghost use Prim.Native.Nat.{_+_, _*_, _%_, _<_, _≤_};
 ghost use mathlib.Core.List.{_++_};
 ghost use lib.ListN.{length, take, drop};
 ghost use Rattle.flat.specs.Lists.{bytes, field, same};
