@@ -2,8 +2,8 @@
 use mathlib.Core.Path.{sym, ap, _∙_, subst}
 use Prim.Native.Nat.{_<_}
 use borrow.Author.Needs.{needs}
-use Rattle.record.specs.declared.reader.RecordFault.{RecordFault}
-use Rattle.record.specs.Reports.{recordFaultReport}
+use Rattle.record_reader.specs.declared.RecordFault.{RecordFault}
+use Rattle.record_reader.specs.Reports.{recordFaultReport}
 use Rattle.bridgecrumb.specs.Coded.{value, coded}
 use Rattle.bridgecrumb.proofs.records.record_fault_code.Statement.{statement}
 use Rattle.bridgecrumb.proofs.records.record_fault_code.Tie as tie

@@ -3,8 +3,8 @@ use mathlib.Core.Path.{sym, ap, _∙_, subst}
 use Prim.Native.Nat.{_<_}
 use native.Mathlib.Omega.{arith}
 use borrow.Author.Needs.{needs}
-use Rattle.record.specs.declared.writer.RecordWritten.{RecordWritten}
-use Rattle.record.specs.Reports.{writtenReport}
+use Rattle.record_writer.specs.declared.RecordWritten.{RecordWritten}
+use Rattle.record_writer.specs.Reports.{writtenReport}
 use Rattle.bridgecrumb.specs.Coded.{value, coded}
 use Rattle.bridgecrumb.proofs.records.record_written_code.Statement.{statement}
 use Rattle.bridgecrumb.proofs.records.record_written_code.Tie as tie
