@@ -1,13 +1,13 @@
--- `bridgecrumb::records::record_written_code` meets its contract. Assumes nothing.
+-- `codes::records::record_written_code` meets its contract. Assumes nothing.
 use mathlib.Core.Path.{sym, ap, _∙_, subst}
 use Prim.Native.Nat.{_<_}
 use native.Mathlib.Omega.{arith}
 use borrow.Author.Needs.{needs}
 use Rattle.record.specs.declared.writer.RecordWritten.{RecordWritten}
 use Rattle.record.specs.Reports.{writtenReport}
-use Rattle.bridgecrumb.specs.Coded.{value, coded}
-use Rattle.bridgecrumb.proofs.records.record_written_code.Statement.{statement}
-use Rattle.bridgecrumb.proofs.records.record_written_code.Tie as tie
+use Rattle.codes.specs.Coded.{value, coded}
+use Rattle.codes.proofs.records.record_written_code.Statement.{statement}
+use Rattle.codes.proofs.records.record_written_code.Tie as tie
 
 enum-known-written : tie.Need-enum-known-written
 enum-known-written c = search needs

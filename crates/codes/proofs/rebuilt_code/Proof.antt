@@ -1,13 +1,13 @@
--- `bridgecrumb::rebuilt_code` meets its contract. Assumes nothing.
+-- `codes::rebuilt_code` meets its contract. Assumes nothing.
 use mathlib.Core.Path.{sym, ap, _∙_, subst}
 use Prim.Native.Nat.{_<_}
 use native.Mathlib.Omega.{arith}
 use Rattle.rebuilder.specs.declared.Rebuilt.{Rebuilt}
 use Rattle.rebuilder.specs.Reports.{rebuiltReport}
-use Rattle.bridgecrumb.specs.Coded.{value, coded}
+use Rattle.codes.specs.Coded.{value, coded}
 use borrow.Author.Needs.{needs}
-use Rattle.bridgecrumb.proofs.rebuilt_code.Statement.{statement}
-use Rattle.bridgecrumb.proofs.rebuilt_code.Tie as tie
+use Rattle.codes.proofs.rebuilt_code.Statement.{statement}
+use Rattle.codes.proofs.rebuilt_code.Tie as tie
 
 enum-known-rebuilt : tie.Need-enum-known-rebuilt
 enum-known-rebuilt c = search needs

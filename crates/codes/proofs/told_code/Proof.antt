@@ -1,13 +1,13 @@
--- `bridgecrumb::told_code` meets its contract. Assumes nothing.
+-- `codes::told_code` meets its contract. Assumes nothing.
 use mathlib.Core.Path.{sym, ap, _∙_, subst}
 use Prim.Native.Nat.{_<_}
 use native.Mathlib.Omega.{arith}
 use borrow.Author.Needs.{needs}
 use Rattle.equations.specs.declared.Told.{Told}
 use Rattle.equations.specs.Reports.{toldReport}
-use Rattle.bridgecrumb.specs.Coded.{value, coded}
-use Rattle.bridgecrumb.proofs.told_code.Statement.{statement}
-use Rattle.bridgecrumb.proofs.told_code.Tie as tie
+use Rattle.codes.specs.Coded.{value, coded}
+use Rattle.codes.proofs.told_code.Statement.{statement}
+use Rattle.codes.proofs.told_code.Tie as tie
 
 enum-known-told : tie.Need-enum-known-told
 enum-known-told c = search needs

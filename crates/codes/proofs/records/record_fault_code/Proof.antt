@@ -1,12 +1,12 @@
--- `bridgecrumb::records::record_fault_code` meets its contract. Assumes nothing.
+-- `codes::records::record_fault_code` meets its contract. Assumes nothing.
 use mathlib.Core.Path.{sym, ap, _∙_, subst}
 use Prim.Native.Nat.{_<_}
 use borrow.Author.Needs.{needs}
 use Rattle.record.specs.declared.reader.RecordFault.{RecordFault}
 use Rattle.record.specs.Reports.{recordFaultReport}
-use Rattle.bridgecrumb.specs.Coded.{value, coded}
-use Rattle.bridgecrumb.proofs.records.record_fault_code.Statement.{statement}
-use Rattle.bridgecrumb.proofs.records.record_fault_code.Tie as tie
+use Rattle.codes.specs.Coded.{value, coded}
+use Rattle.codes.proofs.records.record_fault_code.Statement.{statement}
+use Rattle.codes.proofs.records.record_fault_code.Tie as tie
 
 enum-told : tie.Need-enum-told
 enum-told c = search needs

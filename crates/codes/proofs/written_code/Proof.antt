@@ -1,12 +1,12 @@
--- `bridgecrumb::cards::written_code` meets its contract. Assumes nothing.
+-- `codes::written_code` meets its contract. Assumes nothing.
 use mathlib.Core.Path.{sym, ap, _∙_, subst}
 use Prim.Native.Nat.{_<_}
 use borrow.Author.Needs.{needs}
 use Rattle.card.specs.declared.CardWritten.{CardWritten}
 use Rattle.card.specs.Reports.{writtenReport}
-use Rattle.bridgecrumb.specs.Coded.{value, coded}
-use Rattle.bridgecrumb.proofs.cards.written_code.Statement.{statement}
-use Rattle.bridgecrumb.proofs.cards.written_code.Tie as tie
+use Rattle.codes.specs.Coded.{value, coded}
+use Rattle.codes.proofs.written_code.Statement.{statement}
+use Rattle.codes.proofs.written_code.Tie as tie
 
 enum-told : tie.Need-enum-told
 enum-told c = search needs

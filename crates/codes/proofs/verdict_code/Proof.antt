@@ -1,12 +1,12 @@
--- `bridgecrumb::verdict_code` meets its contract. Assumes nothing.
+-- `codes::verdict_code` meets its contract. Assumes nothing.
 use mathlib.Core.Path.{sym, ap, _∙_, subst}
 use Prim.Native.Nat.{_<_}
 use borrow.Author.Needs.{needs}
 use Rattle.erasures.specs.declared.SetVerdict.{SetVerdict}
 use Rattle.erasures.specs.Reports.{verdictReport}
-use Rattle.bridgecrumb.specs.Coded.{value, coded}
-use Rattle.bridgecrumb.proofs.verdict_code.Statement.{statement}
-use Rattle.bridgecrumb.proofs.verdict_code.Tie as tie
+use Rattle.codes.specs.Coded.{value, coded}
+use Rattle.codes.proofs.verdict_code.Statement.{statement}
+use Rattle.codes.proofs.verdict_code.Tie as tie
 
 enum-told : tie.Need-enum-told
 enum-told c = search needs

@@ -1,13 +1,13 @@
--- `bridgecrumb::fault_code` meets its contract. Assumes nothing.
+-- `codes::fault_code` meets its contract. Assumes nothing.
 use mathlib.Core.Path.{sym, ap, _∙_, subst}
 use Prim.Native.Nat.{_<_}
 use native.Mathlib.Omega.{arith}
 use borrow.Author.Needs.{needs}
 use Rattle.card.specs.declared.CardFault.{CardFault}
 use Rattle.card.specs.Reports.{faultReport}
-use Rattle.bridgecrumb.specs.Coded.{value, coded}
-use Rattle.bridgecrumb.proofs.fault_code.Statement.{statement}
-use Rattle.bridgecrumb.proofs.fault_code.Tie as tie
+use Rattle.codes.specs.Coded.{value, coded}
+use Rattle.codes.proofs.fault_code.Statement.{statement}
+use Rattle.codes.proofs.fault_code.Tie as tie
 
 enum-told : tie.Need-enum-told
 enum-told c = search needs

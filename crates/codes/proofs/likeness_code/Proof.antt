@@ -1,12 +1,12 @@
--- `bridgecrumb::cards::likeness_code` meets its contract. Assumes nothing.
+-- `codes::likeness_code` meets its contract. Assumes nothing.
 use mathlib.Core.Path.{sym, ap, _∙_, subst}
 use Prim.Native.Nat.{_<_}
 use borrow.Author.Needs.{needs}
 use Rattle.erasures.specs.declared.compare.Likeness.{Likeness}
 use Rattle.erasures.specs.Reports.{alikeReport}
-use Rattle.bridgecrumb.specs.Coded.{value, coded}
-use Rattle.bridgecrumb.proofs.cards.likeness_code.Statement.{statement}
-use Rattle.bridgecrumb.proofs.cards.likeness_code.Tie as tie
+use Rattle.codes.specs.Coded.{value, coded}
+use Rattle.codes.proofs.likeness_code.Statement.{statement}
+use Rattle.codes.proofs.likeness_code.Tie as tie
 
 enum-told : tie.Need-enum-told
 enum-told c = search needs

@@ -1,12 +1,12 @@
--- `bridgecrumb::encoded_code` meets its contract. Assumes nothing.
+-- `codes::encoded_code` meets its contract. Assumes nothing.
 use mathlib.Core.Path.{sym, ap, _∙_, subst}
 use Prim.Native.Nat.{_<_}
 use borrow.Author.Needs.{needs}
 use Rattle.encoder.specs.declared.Encoded.{Encoded}
 use Rattle.encoder.specs.Reports.{encodedReport}
-use Rattle.bridgecrumb.specs.Coded.{value, coded}
-use Rattle.bridgecrumb.proofs.encoded_code.Statement.{statement}
-use Rattle.bridgecrumb.proofs.encoded_code.Tie as tie
+use Rattle.codes.specs.Coded.{value, coded}
+use Rattle.codes.proofs.encoded_code.Statement.{statement}
+use Rattle.codes.proofs.encoded_code.Tie as tie
 
 enum-told : tie.Need-enum-told
 enum-told c = search needs
