@@ -1,6 +1,8 @@
 // The strips of the targets filled block by block: the 128 bytes at one offset of all strips that are
 // read go into a local array, and that block of every target is computed from it. Where the sets are
 // large, a strip's bytes are read from the stripe once, and not once for each target.
+//
+// It assumes strips of 128 bytes or more, at most 32 disks, and that no strip that is read is a target's.
 ghost use mathlib.Core.Path.{_≡_};
 ghost use mathlib.Core.Bool.{_&&_};
 ghost use Prim.Native.Nat.{ℕ, _+_, _-_, _*_, _/_, _%_, _<_, _≤_};
@@ -58,7 +60,7 @@ fn fill_block(
 }
 
 // The strips of the targets, of 128 bytes or more.
-pub(crate) fn fill(s: &mut [u8], l: usize, n: usize, disks: usize, targets: u32, sets: [u32; 32])
+pub fn fill(s: &mut [u8], l: usize, n: usize, disks: usize, targets: u32, sets: [u32; 32])
     requires { ⌜ (128 ≤ l) × (n ≤ disks) × (disks ≤ 32) × (disks * l ≡ length (now s)) ⌝ }
     requires { ⌜ ((d i : ℕ) → T (has targets d) → i < n → T (has (getD sets d 0) i) → T (has targets i) → ⊥) ⌝ }
     ensures { λ _. ⌜ now (s .exit) ≡ filled n l (λ d. getD sets d 0) targets (now (s .entry)) ⌝ }
@@ -79,7 +81,7 @@ pub(crate) fn fill(s: &mut [u8], l: usize, n: usize, disks: usize, targets: u32,
 
 // Whether the sets of the targets name each of the n strips three times or more on average. It chooses
 // the way to fill, and no more.
-pub(crate) fn is_dense(n: usize, disks: usize, targets: u32, sets: [u32; 32]) -> bool
+pub fn is_dense(n: usize, disks: usize, targets: u32, sets: [u32; 32]) -> bool
     requires { ⌜ (n ≤ 32) × (disks ≤ 32) ⌝ }
 {
     let mut named = 0usize;

@@ -1,13 +1,13 @@
--- `strips::dense::gather` meets its contract: the blocks of the disks so far are gathered.
+-- `dense::gather` meets its contract: the blocks of the disks so far are gathered.
 -- Assumes nothing.
 use mathlib.Core.Path.{_≡_, sym, subst}
 use Prim.Native.Nat.{_+_, _-_, _*_, _≤_}
 use native.Mathlib.Omega.{arith}
 use Rattle.blocks.proofs.Summed.{strip-within}
-use Rattle.strips.proofs.Patched.{Gathered, gathered-none, gathered-more}
+use Rattle.dense.proofs.Patched.{Gathered, gathered-none, gathered-more}
 use borrow.Author.Needs.{needs}
-use Rattle.strips.proofs.dense.gather.Statement.{statement}
-use Rattle.strips.proofs.dense.gather.Tie as tie
+use Rattle.dense.proofs.gather.Statement.{statement}
+use Rattle.dense.proofs.gather.Tie as tie
 
 abbrev Inv-loop : tie.InvT-loop
 Inv-loop local₀ s l n o i₀ local i = (i ≤ n) × Gathered s l o i local

@@ -1,4 +1,4 @@
--- `strips::dense::fill_block` meets its contract: the blocks of the targets below d are filled.
+-- `dense::fill_block` meets its contract: the blocks of the targets below d are filled.
 -- Assumes nothing.
 use mathlib.Core.Path.{_≡_, sym, _∙_, subst}
 use mathlib.Core.Logic.{⊎-elim}
@@ -7,10 +7,10 @@ use native.Mathlib.Omega.{arith}
 use lib.ListN.{getD}
 use Rattle.gf2.proofs.Tests.{true-T, false-T}
 use Rattle.blocks.proofs.Summed.{strip-within}
-use Rattle.strips.proofs.Patched.{Blocks, block-none, block-skip, block-more, block-all}
+use Rattle.dense.proofs.Patched.{Blocks, block-none, block-skip, block-more, block-all}
 use borrow.Author.Needs.{needs}
-use Rattle.strips.proofs.dense.fill_block.Statement.{statement}
-use Rattle.strips.proofs.dense.fill_block.Tie as tie
+use Rattle.dense.proofs.fill_block.Statement.{statement}
+use Rattle.dense.proofs.fill_block.Tie as tie
 
 abbrev Inv-loop : tie.InvT-loop
 Inv-loop s₀ local l n disks targets o sets d₀ s d = (d ≤ disks) × Blocks n l (λ i. getD sets i 0) targets s₀ local o d s

@@ -1,11 +1,11 @@
--- `strips::dense::is_dense` ends, and nothing in it overflows.
+-- `dense::is_dense` ends, and nothing in it overflows.
 -- Assumes nothing.
 use mathlib.Core.Logic.{⊎-elim}
 use Prim.Native.Nat.{_-_, _*_, _≤_}
 use native.Mathlib.Omega.{arith}
 use borrow.Author.Needs.{needs}
-use Rattle.strips.proofs.dense.is_dense.Statement.{statement}
-use Rattle.strips.proofs.dense.is_dense.Tie as tie
+use Rattle.dense.proofs.is_dense.Statement.{statement}
+use Rattle.dense.proofs.is_dense.Tie as tie
 
 abbrev Inv-loop : tie.InvT-loop
 Inv-loop n disks targets sets named₀ d₀ named d = (d ≤ disks) × (named ≤ d * 4294967296)

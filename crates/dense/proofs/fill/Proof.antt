@@ -1,14 +1,14 @@
--- `strips::dense::fill` meets its contract: the bytes below o of the strips of the targets are filled.
+-- `dense::fill` meets its contract: the bytes below o of the strips of the targets are filled.
 -- Assumes nothing.
 use mathlib.Core.Path.{_≡_}
 use Prim.Native.Nat.{ℕ, _+_, _-_, _≤_}
 use native.Mathlib.Nat.{mul-le-mul-right}
 use native.Mathlib.Omega.{arith}
 use lib.ListN.{length, getD, length-replicate}
-use Rattle.strips.proofs.Patched.{Strips, strips-none, strips-more, strips-all}
+use Rattle.dense.proofs.Patched.{Strips, strips-none, strips-more, strips-all}
 use borrow.Author.Needs.{needs}
-use Rattle.strips.proofs.dense.fill.Statement.{statement}
-use Rattle.strips.proofs.dense.fill.Tie as tie
+use Rattle.dense.proofs.fill.Statement.{statement}
+use Rattle.dense.proofs.fill.Tie as tie
 
 abbrev Inv-loop : tie.InvT-loop
 Inv-loop s₀ l n disks targets sets local₀ o₀ s local o = (o ≤ l) × (length local ≡ 4096) × Strips n l (λ i. getD sets i 0) targets s₀ o s

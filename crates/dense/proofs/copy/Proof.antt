@@ -1,4 +1,4 @@
--- `strips::dense::copy` meets its contract: a copy is made byte by byte.
+-- `dense::copy` meets its contract: a copy is made byte by byte.
 -- Assumes nothing.
 use mathlib.Core.Path.{_≡_, sym}
 use Prim.Native.Nat.{_-_, _≤_}
@@ -7,8 +7,8 @@ use lib.ListN.{drop, length-drop}
 use lib.Seq.{getD-drop}
 use Rattle.blocks.proofs.Loops.{Copied, copied-none, copied-more, copied-all}
 use borrow.Author.Needs.{needs}
-use Rattle.strips.proofs.dense.copy.Statement.{statement}
-use Rattle.strips.proofs.dense.copy.Tie as tie
+use Rattle.dense.proofs.copy.Statement.{statement}
+use Rattle.dense.proofs.copy.Tie as tie
 
 abbrev Inv-loop : tie.InvT-loop
 Inv-loop local₀ to s at t₀ local t = (t ≤ 128) × Copied local₀ (drop at s) to t local
