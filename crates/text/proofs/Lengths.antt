@@ -7,11 +7,9 @@ use native.Mathlib.Omega.{arith}
 use lib.ListN.{length, length-append}
 use Rattle.gf2.specs.Sets.{size}
 use Rattle.flat.specs.Lists.{each}
-use Rattle.text.specs.Text.{decimal, spaced, codeLine, entryLine, vectorLine, listingText, refusedText}
-
-pub length-spaced : (n : ℕ) → length (spaced n) ≡ length (decimal n) + 1
-unfolding spaced
-length-spaced n = omega arith
+use Rattle.decimals.specs.Decimal.{decimal, spaced}
+use Rattle.decimals.proofs.Digits.{length-spaced}
+use Rattle.text.specs.Text.{codeLine, entryLine, vectorLine, listingText, refusedText}
 
 pub length-entry : (S : ℕ) → length (entryLine S) ≡ length (decimal (size S)) + length (decimal S) + 2
 unfolding entryLine

@@ -1,23 +1,10 @@
 -- What a listing prints, as bytes: numbers in decimal, a single space between, each line ended by 0x0A.
 -- Assumes nothing.
 use mathlib.Core.List.{List, [], _∷_, _++_}
-use Prim.Native.Nat.{ℕ, zero, suc, _+_, _/_, _%_}
+use Prim.Native.Nat.{ℕ}
 use Rattle.gf2.specs.Sets.{size}
 use Rattle.flat.specs.Lists.{each}
-
--- the decimal digits of a number in ASCII, no leading zero, so none of 0: the last `most` of them, where there are more
-unfoldable pub digits : ℕ → ℕ → List ℕ
-digits zero n = []
-digits (suc most) zero = []
-digits (suc most) (suc n) = digits most (suc n / 10) ++ ((0x30 + suc n % 10) ∷ [])
-
--- n in decimal: the digits of its tenth, at most n, then its last digit, so that 0 is `0`
-unfoldable pub decimal : ℕ → List ℕ
-decimal n = digits n (n / 10) ++ ((0x30 + n % 10) ∷ [])
-
--- a space and a number
-unfoldable pub spaced : ℕ → List ℕ
-spaced n = 0x20 ∷ decimal n
+use Rattle.decimals.specs.Decimal.{decimal, spaced}
 
 abbrev pub lineEnd : List ℕ
 lineEnd = 0x0A ∷ []

@@ -10,7 +10,7 @@ use lib.ListN.{length, take}
 use lib.Seq.{take-length}
 use Rattle.flat.specs.Lists.{each}
 use Rattle.text.specs.Text.{entryLine}
-use Rattle.text.proofs.Pieces.{each-none, length-more}
+use Rattle.decimals.proofs.Pieces.{each-none, length-more}
 use Rattle.text.proofs.entries_length.Statement.{statement}
 use Rattle.text.proofs.entries_length.Tie as tie
 

@@ -5,7 +5,7 @@ use Prim.Native.Nat.{ℕ}
 use native.Mathlib.Omega.{arith}
 use borrow.Author.Needs.{needs}
 use lib.ListN.{length}
-use Rattle.text.specs.Text.{decimal}
+use Rattle.decimals.specs.Decimal.{decimal}
 use Rattle.text.proofs.Lengths.{length-entry}
 use Rattle.text.proofs.entry_length.Statement.{statement}
 use Rattle.text.proofs.entry_length.Tie as tie

@@ -9,9 +9,9 @@ use lib.ListN.{length, take}
 use lib.Seq.{take-length}
 use Rattle.flat.specs.Lists.{each}
 use Rattle.text.specs.Text.{entryLine}
-use Rattle.text.specs.Places.{Put}
-use Rattle.text.proofs.Pieces.{each-none, each-more, room}
-use Rattle.text.proofs.Puts.{put-none, put-then, put-length}
+use Rattle.decimals.specs.Places.{Put}
+use Rattle.decimals.proofs.Pieces.{each-none, each-more, room}
+use Rattle.decimals.proofs.Puts.{put-none, put-then, put-length}
 use Rattle.text.proofs.put_entries.Statement.{statement}
 use Rattle.text.proofs.put_entries.Tie as tie
 

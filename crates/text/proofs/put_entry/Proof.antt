@@ -8,10 +8,11 @@ use borrow.Author.Needs.{needs}
 use denote.Ref.{now}
 use lib.ListN.{length}
 use Rattle.gf2.specs.Sets.{size}
-use Rattle.text.specs.Text.{decimal, spaced, lineEnd, entryLine}
-use Rattle.text.specs.Places.{Put}
+use Rattle.decimals.specs.Decimal.{decimal, spaced}
+use Rattle.text.specs.Text.{lineEnd, entryLine}
+use Rattle.decimals.specs.Places.{Put}
 use Rattle.text.proofs.Lengths.{length-entry}
-use Rattle.text.proofs.Puts.{put-then, put-length, front, behind}
+use Rattle.decimals.proofs.Puts.{put-then, put-length, front, behind}
 use Rattle.text.proofs.put_entry.Statement.{statement}
 use Rattle.text.proofs.put_entry.Tie as tie
 

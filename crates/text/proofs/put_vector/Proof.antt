@@ -6,9 +6,10 @@ use borrow.Author.Needs.{needs}
 use denote.Ref.{now}
 use lib.ListN.{length}
 use Rattle.flat.specs.Lists.{each}
-use Rattle.text.specs.Text.{spaced, lineEnd, vectorWord, vectorLine}
-use Rattle.text.specs.Places.{Put}
-use Rattle.text.proofs.Puts.{put-then, put-length, front, behind}
+use Rattle.decimals.specs.Decimal.{spaced}
+use Rattle.text.specs.Text.{lineEnd, vectorWord, vectorLine}
+use Rattle.decimals.specs.Places.{Put}
+use Rattle.decimals.proofs.Puts.{put-then, put-length, front, behind}
 use Rattle.text.proofs.put_vector.Statement.{statement}
 use Rattle.text.proofs.put_vector.Tie as tie
 

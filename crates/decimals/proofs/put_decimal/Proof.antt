@@ -1,4 +1,4 @@
--- `text::put_decimal` meets its contract: the digits of what is left, put where they belong, complete the number.
+-- `decimals::put_decimal` meets its contract: the digits of what is left, put where they belong, complete the number.
 -- Assumes nothing.
 use mathlib.Core.Path.{_≡_, refl, sym, ap, _∙_}
 use Prim.Native.Nat.{ℕ, _+_, _-_, _/_, _%_, _≤_, _<_}
@@ -6,11 +6,11 @@ use native.Mathlib.Omega.{arith}
 use borrow.Author.Needs.{needs}
 use lib.ListN.{length, set, length-set}
 use lib.Seq.{sets}
-use Rattle.text.specs.Text.{decimal}
-use Rattle.text.proofs.Digits.{decimal-short, decimal-long, length-short, length-long, length-some}
-use Rattle.text.proofs.Puts.{sets-last}
-use Rattle.text.proofs.put_decimal.Statement.{statement}
-use Rattle.text.proofs.put_decimal.Tie as tie
+use Rattle.decimals.specs.Decimal.{decimal}
+use Rattle.decimals.proofs.Digits.{decimal-short, decimal-long, length-short, length-long, length-some}
+use Rattle.decimals.proofs.Puts.{sets-last}
+use Rattle.decimals.proofs.put_decimal.Statement.{statement}
+use Rattle.decimals.proofs.put_decimal.Tie as tie
 
 abbrev Inv-loop : tie.InvT-loop
 Inv-loop n out₀ at next last₀ rest₀ out last rest =

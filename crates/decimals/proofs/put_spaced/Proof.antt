@@ -1,15 +1,15 @@
--- `text::put_spaced` meets its contract: a space, then the number.
+-- `decimals::put_spaced` meets its contract: a space, then the number.
 -- Assumes nothing.
 use native.Mathlib.Omega.{arith}
 use borrow.Author.Needs.{needs}
 use denote.Ref.{now}
 use lib.ListN.{length-set}
-use Rattle.text.specs.Text.{spaced}
-use Rattle.text.specs.Places.{Put}
-use Rattle.text.proofs.Lengths.{length-spaced}
-use Rattle.text.proofs.Puts.{put-byte, put-then, put-length}
-use Rattle.text.proofs.put_spaced.Statement.{statement}
-use Rattle.text.proofs.put_spaced.Tie as tie
+use Rattle.decimals.specs.Decimal.{spaced}
+use Rattle.decimals.specs.Places.{Put}
+use Rattle.decimals.proofs.Digits.{length-spaced}
+use Rattle.decimals.proofs.Puts.{put-byte, put-then, put-length}
+use Rattle.decimals.proofs.put_spaced.Statement.{statement}
+use Rattle.decimals.proofs.put_spaced.Tie as tie
 
 slice-write-out : tie.Need-slice-write-out
 slice-write-out c = omega (arith, length-spaced (c .before .args .n))

@@ -1,4 +1,4 @@
--- `text::put` meets its contract: after i turns the first i bytes are put.
+-- `decimals::put` meets its contract: after i turns the first i bytes are put.
 -- Assumes nothing.
 use mathlib.Core.Path.{_≡_}
 use Prim.Native.Nat.{_-_, _≤_, _<_}
@@ -8,10 +8,10 @@ use borrow.Author.Needs.{needs}
 use denote.Ref.{now}
 use lib.ListN.{length, take}
 use lib.Seq.{length-take-le, take-suc, take-length}
-use Rattle.text.specs.Places.{Put}
-use Rattle.text.proofs.Puts.{put-none, put-byte, put-then, put-length}
-use Rattle.text.proofs.put.Statement.{statement}
-use Rattle.text.proofs.put.Tie as tie
+use Rattle.decimals.specs.Places.{Put}
+use Rattle.decimals.proofs.Puts.{put-none, put-byte, put-then, put-length}
+use Rattle.decimals.proofs.put.Statement.{statement}
+use Rattle.decimals.proofs.put.Tie as tie
 
 abbrev Inv-loop : tie.InvT-loop
 Inv-loop bytes out₀ at next₀ i₀ i-end out next i = (i ≤ length bytes) × Put (take i bytes) at out₀ out next

@@ -1,4 +1,4 @@
--- Bytes put into a buffer at a place, by the functions that write the text piece by piece.
+-- Bytes put into a buffer at a place, by the functions that write piece by piece.
 -- Assumes nothing.
 use mathlib.Core.Path.{_≡_}
 use mathlib.Core.List.{List}

@@ -8,7 +8,7 @@ use native.Mathlib.Nat.{pow-succ'}
 use native.Mathlib.Omega.{arith}
 use lib.ListN.{length, length-append}
 use Rattle.gf2.proofs.Tests.{below-or}
-use Rattle.text.specs.Text.{digits, decimal}
+use Rattle.decimals.specs.Decimal.{digits, decimal, spaced}
 
 -- ---- one step
 
@@ -67,3 +67,7 @@ length-most (suc most) n h =
 -- a number of the machine has at most 20
 pub length-word : (n : ℕ) → n < 2 ^ 64 → length (decimal n) ≤ 20
 length-word n h = length-most 19 n (omega arith)
+
+pub length-spaced : (n : ℕ) → length (spaced n) ≡ length (decimal n) + 1
+unfolding spaced
+length-spaced n = omega arith

@@ -7,7 +7,7 @@ use native.Mathlib.Nat.{add-zero}
 use native.Mathlib.Omega.{arith}
 use lib.ListN.{length, set, length-append}
 use lib.Seq.{sets, set-comm, length-sets}
-use Rattle.text.specs.Places.{Put}
+use Rattle.decimals.specs.Places.{Put}
 
 -- what stands after x ∷ a, counted from the place of x
 next : (at : ℕ) (a : List ℕ) → at + suc (length a) ≡ suc at + length a

@@ -1,4 +1,4 @@
--- `text::put_numbers` meets its contract: after i turns the first i pieces are put.
+-- `decimals::put_numbers` meets its contract: after i turns the first i pieces are put.
 -- Assumes nothing.
 use mathlib.Core.Path.{_≡_}
 use Prim.Native.Nat.{_-_, _≤_, _<_}
@@ -8,12 +8,12 @@ use denote.Ref.{now}
 use lib.ListN.{length, take}
 use lib.Seq.{take-length}
 use Rattle.flat.specs.Lists.{each}
-use Rattle.text.specs.Text.{spaced}
-use Rattle.text.specs.Places.{Put}
-use Rattle.text.proofs.Pieces.{each-none, each-more, room}
-use Rattle.text.proofs.Puts.{put-none, put-then, put-length}
-use Rattle.text.proofs.put_numbers.Statement.{statement}
-use Rattle.text.proofs.put_numbers.Tie as tie
+use Rattle.decimals.specs.Decimal.{spaced}
+use Rattle.decimals.specs.Places.{Put}
+use Rattle.decimals.proofs.Pieces.{each-none, each-more, room}
+use Rattle.decimals.proofs.Puts.{put-none, put-then, put-length}
+use Rattle.decimals.proofs.put_numbers.Statement.{statement}
+use Rattle.decimals.proofs.put_numbers.Tie as tie
 
 abbrev Inv-loop : tie.InvT-loop
 Inv-loop numbers out₀ at next₀ i₀ i-end out next i = (i ≤ length numbers) × Put (each spaced (take i numbers)) at out₀ out next

@@ -1,14 +1,14 @@
--- `text::decimal_length` meets its contract: the digits counted and those of what is left are one more than all.
+-- `decimals::decimal_length` meets its contract: the digits counted and those of what is left are one more than all.
 -- Assumes nothing.
 use mathlib.Core.Path.{_≡_}
 use Prim.Native.Nat.{_+_, _^_, _<_}
 use native.Mathlib.Omega.{arith}
 use borrow.Author.Needs.{needs}
 use lib.ListN.{length}
-use Rattle.text.specs.Text.{decimal}
-use Rattle.text.proofs.Digits.{length-short, length-long, length-some, length-word}
-use Rattle.text.proofs.decimal_length.Statement.{statement}
-use Rattle.text.proofs.decimal_length.Tie as tie
+use Rattle.decimals.specs.Decimal.{decimal}
+use Rattle.decimals.proofs.Digits.{length-short, length-long, length-some, length-word}
+use Rattle.decimals.proofs.decimal_length.Statement.{statement}
+use Rattle.decimals.proofs.decimal_length.Tie as tie
 
 abbrev Inv-loop : tie.InvT-loop
 Inv-loop n digits₀ rest₀ digits rest = (digits + length (decimal rest) ≡ length (decimal n) + 1) × (n < 2 ^ 64)

@@ -1,4 +1,4 @@
--- `text::numbers_length` meets its contract: after i turns the sum is the length of the first i pieces.
+-- `decimals::numbers_length` meets its contract: after i turns the sum is the length of the first i pieces.
 -- Assumes nothing.
 use mathlib.Core.Path.{_≡_, sym, ap, _∙_}
 use mathlib.Core.List.{List}
@@ -9,11 +9,11 @@ use denote.Ref.{now}
 use lib.ListN.{length, getD, take}
 use lib.Seq.{take-length}
 use Rattle.flat.specs.Lists.{each}
-use Rattle.text.specs.Text.{spaced}
-use Rattle.text.proofs.Lengths.{length-spaced}
-use Rattle.text.proofs.Pieces.{each-none, length-more}
-use Rattle.text.proofs.numbers_length.Statement.{statement}
-use Rattle.text.proofs.numbers_length.Tie as tie
+use Rattle.decimals.specs.Decimal.{spaced}
+use Rattle.decimals.proofs.Digits.{length-spaced}
+use Rattle.decimals.proofs.Pieces.{each-none, length-more}
+use Rattle.decimals.proofs.numbers_length.Statement.{statement}
+use Rattle.decimals.proofs.numbers_length.Tie as tie
 
 abbrev Inv-loop : tie.InvT-loop
 Inv-loop numbers sum₀ i₀ i-end sum i = (i ≤ length numbers) × (sum ≡ length (each spaced (take i numbers))) × (sum ≤ 21 * i)
