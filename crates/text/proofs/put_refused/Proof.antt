@@ -6,7 +6,8 @@ use borrow.Author.Needs.{needs}
 use denote.Ref.{now}
 use lib.ListN.{length}
 use Rattle.decimals.specs.Decimal.{spaced}
-use Rattle.text.specs.Text.{lineEnd, refusedWord, refusedText}
+use Rattle.lines.specs.Lines.{lineEnd}
+use Rattle.text.specs.Text.{refusedWord, refusedText}
 use Rattle.decimals.specs.Places.{Put}
 use Rattle.decimals.proofs.Puts.{put-then, put-length, front, behind}
 use Rattle.text.proofs.put_refused.Statement.{statement}

@@ -1,4 +1,4 @@
--- `text::put_entries` meets its contract: after i turns the first i pieces are put.
+-- `lines::put_entries` meets its contract: after i turns the first i pieces are put.
 -- Assumes nothing.
 use mathlib.Core.Path.{_≡_}
 use Prim.Native.Nat.{_-_, _≤_, _<_}
@@ -8,12 +8,12 @@ use denote.Ref.{now}
 use lib.ListN.{length, take}
 use lib.Seq.{take-length}
 use Rattle.flat.specs.Lists.{each}
-use Rattle.text.specs.Text.{entryLine}
+use Rattle.lines.specs.Lines.{entryLine}
 use Rattle.decimals.specs.Places.{Put}
 use Rattle.decimals.proofs.Pieces.{each-none, each-more, room}
 use Rattle.decimals.proofs.Puts.{put-none, put-then, put-length}
-use Rattle.text.proofs.put_entries.Statement.{statement}
-use Rattle.text.proofs.put_entries.Tie as tie
+use Rattle.lines.proofs.put_entries.Statement.{statement}
+use Rattle.lines.proofs.put_entries.Tie as tie
 
 abbrev Inv-loop : tie.InvT-loop
 Inv-loop entries out₀ at next₀ i₀ i-end out next i = (i ≤ length entries) × Put (each entryLine (take i entries)) at out₀ out next

@@ -1,4 +1,4 @@
--- `text::entries_length` meets its contract: after i turns the sum is the length of the first i pieces.
+-- `lines::entries_length` meets its contract: after i turns the sum is the length of the first i pieces.
 -- Assumes nothing.
 use mathlib.Core.Path.{_≡_, sym, ap, _∙_}
 use mathlib.Core.List.{List}
@@ -9,10 +9,10 @@ use denote.Ref.{now}
 use lib.ListN.{length, take}
 use lib.Seq.{take-length}
 use Rattle.flat.specs.Lists.{each}
-use Rattle.text.specs.Text.{entryLine}
+use Rattle.lines.specs.Lines.{entryLine}
 use Rattle.decimals.proofs.Pieces.{each-none, length-more}
-use Rattle.text.proofs.entries_length.Statement.{statement}
-use Rattle.text.proofs.entries_length.Tie as tie
+use Rattle.lines.proofs.entries_length.Statement.{statement}
+use Rattle.lines.proofs.entries_length.Tie as tie
 
 abbrev Inv-loop : tie.InvT-loop
 Inv-loop entries sum₀ i₀ i-end sum i = (i ≤ length entries) × (sum ≡ length (each entryLine (take i entries))) × (sum ≤ 42 * i)

@@ -1,4 +1,4 @@
--- `text::put_code` meets its contract: the word, k, m and the line end, one after the other.
+-- `lines::put_code` meets its contract: the word, k, m and the line end, one after the other.
 -- Assumes nothing.
 use mathlib.Core.List.{_++_}
 use Prim.Native.Nat.{_+_, _≤_}
@@ -6,11 +6,11 @@ use borrow.Author.Needs.{needs}
 use denote.Ref.{now}
 use lib.ListN.{length}
 use Rattle.decimals.specs.Decimal.{spaced}
-use Rattle.text.specs.Text.{lineEnd, codeWord, codeLine}
+use Rattle.lines.specs.Lines.{lineEnd, codeWord, codeLine}
 use Rattle.decimals.specs.Places.{Put}
 use Rattle.decimals.proofs.Puts.{put-then, put-length, front, behind}
-use Rattle.text.proofs.put_code.Statement.{statement}
-use Rattle.text.proofs.put_code.Tie as tie
+use Rattle.lines.proofs.put_code.Statement.{statement}
+use Rattle.lines.proofs.put_code.Tie as tie
 
 -- the pieces have room
 room : (c : tie.Start) → c .args .at + length (codeWord ++ spaced (c .args .k) ++ spaced (c .args .m) ++ lineEnd) ≤ length (now (c .args .out))

@@ -1,4 +1,4 @@
--- `text::put_vector` meets its contract: the word, the numbers and the line end, one after the other.
+-- `lines::put_vector` meets its contract: the word, the numbers and the line end, one after the other.
 -- Assumes nothing.
 use mathlib.Core.List.{_++_}
 use Prim.Native.Nat.{_+_, _≤_}
@@ -7,11 +7,11 @@ use denote.Ref.{now}
 use lib.ListN.{length}
 use Rattle.flat.specs.Lists.{each}
 use Rattle.decimals.specs.Decimal.{spaced}
-use Rattle.text.specs.Text.{lineEnd, vectorWord, vectorLine}
+use Rattle.lines.specs.Lines.{lineEnd, vectorWord, vectorLine}
 use Rattle.decimals.specs.Places.{Put}
 use Rattle.decimals.proofs.Puts.{put-then, put-length, front, behind}
-use Rattle.text.proofs.put_vector.Statement.{statement}
-use Rattle.text.proofs.put_vector.Tie as tie
+use Rattle.lines.proofs.put_vector.Statement.{statement}
+use Rattle.lines.proofs.put_vector.Tie as tie
 
 -- the pieces have room
 room : (c : tie.Start) → c .args .at + length (vectorWord ++ each spaced (now (c .args .vector)) ++ lineEnd) ≤ length (now (c .args .out))

@@ -1,4 +1,4 @@
--- `text::entry_length` meets its contract: the digits of the size and of the set, a space and a line end.
+-- `lines::entry_length` meets its contract: the digits of the size and of the set, a space and a line end.
 -- Assumes nothing.
 use mathlib.Core.Path.{ap}
 use Prim.Native.Nat.{ℕ}
@@ -6,9 +6,9 @@ use native.Mathlib.Omega.{arith}
 use borrow.Author.Needs.{needs}
 use lib.ListN.{length}
 use Rattle.decimals.specs.Decimal.{decimal}
-use Rattle.text.proofs.Lengths.{length-entry}
-use Rattle.text.proofs.entry_length.Statement.{statement}
-use Rattle.text.proofs.entry_length.Tie as tie
+use Rattle.lines.proofs.Lengths.{length-entry}
+use Rattle.lines.proofs.entry_length.Statement.{statement}
+use Rattle.lines.proofs.entry_length.Tie as tie
 
 size-requires : tie.Need-size-requires
 size-requires c κs = search needs

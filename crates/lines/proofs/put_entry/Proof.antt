@@ -1,4 +1,4 @@
--- `text::put_entry` meets its contract: the size, the set and the line end, one after the other.
+-- `lines::put_entry` meets its contract: the size, the set and the line end, one after the other.
 -- Assumes nothing.
 use mathlib.Core.Path.{ap, subst}
 use mathlib.Core.List.{_++_}
@@ -9,12 +9,12 @@ use denote.Ref.{now}
 use lib.ListN.{length}
 use Rattle.gf2.specs.Sets.{size}
 use Rattle.decimals.specs.Decimal.{decimal, spaced}
-use Rattle.text.specs.Text.{lineEnd, entryLine}
+use Rattle.lines.specs.Lines.{lineEnd, entryLine}
 use Rattle.decimals.specs.Places.{Put}
-use Rattle.text.proofs.Lengths.{length-entry}
+use Rattle.lines.proofs.Lengths.{length-entry}
 use Rattle.decimals.proofs.Puts.{put-then, put-length, front, behind}
-use Rattle.text.proofs.put_entry.Statement.{statement}
-use Rattle.text.proofs.put_entry.Tie as tie
+use Rattle.lines.proofs.put_entry.Statement.{statement}
+use Rattle.lines.proofs.put_entry.Tie as tie
 
 size-requires : tie.Need-size-requires
 size-requires c κs = search needs
