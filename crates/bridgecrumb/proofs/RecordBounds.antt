@@ -15,7 +15,7 @@ use Rattle.flat.specs.Strips.{lengthOk}
 use Rattle.flat.specs.Records.{recordLength, lengthIn, bodyIn, markOk, entriesOk, cardEntryOk, lostIn, stripEntriesOk}
 use Rattle.flat.specs.Faults.{Report, accepted, refused, withRecord, recordWriteReport, recordReport, bodyReport}
 use Rattle.flat.proofs.Entries.{length-in, body-place}
-use Rattle.bridgecrumb.specs.Coded.{value}
+use Rattle.codes.specs.Coded.{value}
 use Rattle.bridgecrumb.proofs.Bounds.{pick, with-value}
 
 -- a record is shorter than four gigabytes

@@ -1,41 +1,13 @@
 // The calls on cards alone: the card reader, the card writer, and two cards alike.
 ghost use mathlib.Core.Path.{_≡_};
-ghost use Prim.Native.Nat.{_<_};
 ghost use lib.ListN.{length};
 ghost use Rattle.flat.specs.Cards.{code};
 ghost use Rattle.flat.specs.Faults.{unlessRefused, cardReport, cardColumns, cardWriteReport, cardWriteBuffer, alikeReport};
-ghost use Rattle.card.specs.Reports.{writtenReport};
-ghost use Rattle.erasures.specs.Reports.{alikeReport as likenessReport};
-ghost use Rattle.bridgecrumb.specs.Coded.{value, coded, codedFault};
-use crate::fault_code;
-use crate::joined;
+ghost use Rattle.codes.specs.Coded.{coded, codedFault};
 use card::CardCheck;
-use card::CardWritten;
-use erasures::Likeness;
-
-// The card writer's answer.
-fn written_code(written: CardWritten) -> u64
-    requires { ⌜ value (writtenReport written) < 4294967296 ⌝ }
-    ensures { λ r. ⌜ r ≡ coded (writtenReport written) ⌝ }
-{
-    match written {
-        CardWritten::Done => 0,
-        CardWritten::Refused(fault) => fault_code(fault),
-        CardWritten::Buffer => 7,
-    }
-}
-
-// The answer to whether two cards are alike.
-fn likeness_code(likeness: Likeness) -> u64
-    requires { ⌜ value (likenessReport likeness) < 4294967296 ⌝ }
-    ensures { λ r. ⌜ r ≡ coded (likenessReport likeness) ⌝ }
-{
-    match likeness {
-        Likeness::Alike => joined(0, 1),
-        Likeness::Different => joined(0, 0),
-        Likeness::Card(fault) => fault_code(fault),
-    }
-}
+use codes::fault_code;
+use codes::likeness_code;
+use codes::written_code;
 
 // The card reader: k and m, and the columns, then zeros. A refused call writes nothing.
 #[no_mangle]

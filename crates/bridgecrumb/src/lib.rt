@@ -6,101 +6,19 @@
 // the caller lends. A slice is passed as a pointer and a count. Every byte string, set and slice is a
 // legal argument.
 ghost use mathlib.Core.Path.{_≡_};
-ghost use Prim.Native.Nat.{_+_, _*_, _<_};
 ghost use lib.ListN.{length};
 ghost use Rattle.flat.specs.Faults.{unlessRefused, encodeReport, encodeStripe, verdictReport, erasuresReport, erasuresVector, erasuresSlice, equationsReport, equationsSlice, rebuildReport, rebuildStripe};
-ghost use Rattle.card.specs.Reports.{faultReport};
-ghost use Rattle.erasures.specs.Reports.{verdictReport as setReport};
-ghost use Rattle.equations.specs.Reports.{toldReport};
-ghost use Rattle.encoder.specs.Reports.{encodedReport};
-ghost use Rattle.rebuilder.specs.Reports.{rebuiltReport};
-ghost use Rattle.bridgecrumb.specs.Coded.{value, coded};
-use card::CardFault;
-use encoder::Encoded;
-use equations::Told;
+ghost use Rattle.codes.specs.Coded.{coded};
+use codes::encoded_code;
+use codes::fault_code;
+use codes::joined;
+use codes::rebuilt_code;
+use codes::told_code;
+use codes::verdict_code;
 use erasures::Listed;
-use erasures::SetVerdict;
-use rebuilder::Rebuilt;
 
 mod cards;
 mod records;
-
-// A report's number and its value as one number.
-pub(crate) fn joined(number: u64, value: usize) -> u64
-    requires { ⌜ (number < 256) × (value < 4294967296) ⌝ }
-    ensures { λ r. ⌜ r ≡ number + 256 * value ⌝ }
-{
-    number + 256 * (value as u64)
-}
-
-// A card's fault.
-pub(crate) fn fault_code(fault: CardFault) -> u64
-    requires { ⌜ value (faultReport fault) < 4294967296 ⌝ }
-    ensures { λ r. ⌜ r ≡ coded (faultReport fault) ⌝ }
-{
-    match fault {
-        CardFault::Short => 1,
-        CardFault::DataCount => 2,
-        CardFault::ParityCount => 3,
-        CardFault::Length => 4,
-        CardFault::Column(j) => joined(5, j),
-    }
-}
-
-// The encoder's answer.
-fn encoded_code(encoded: Encoded) -> u64
-    requires { ⌜ value (encodedReport encoded) < 4294967296 ⌝ }
-    ensures { λ r. ⌜ r ≡ coded (encodedReport encoded) ⌝ }
-{
-    match encoded {
-        Encoded::Done => 0,
-        Encoded::Card(fault) => fault_code(fault),
-        Encoded::StripLength => 6,
-        Encoded::StripeLength => 7,
-    }
-}
-
-// The verdict call's answer.
-fn verdict_code(verdict: SetVerdict) -> u64
-    requires { ⌜ value (setReport verdict) < 4294967296 ⌝ }
-    ensures { λ r. ⌜ r ≡ coded (setReport verdict) ⌝ }
-{
-    match verdict {
-        SetVerdict::Fatal => joined(0, 1),
-        SetVerdict::Recoverable => joined(0, 0),
-        SetVerdict::Card(fault) => fault_code(fault),
-        SetVerdict::OutsideSet => 8,
-    }
-}
-
-// The equation call's answer.
-fn told_code(told: Told) -> u64
-    requires { ⌜ value (toldReport told) < 4294967296 ⌝ }
-    ensures { λ r. ⌜ r ≡ coded (toldReport told) ⌝ }
-{
-    match told {
-        Told::Count(count) => joined(0, count),
-        Told::Card(fault) => fault_code(fault),
-        Told::NoDisk => 9,
-        Told::Short(count) => joined(10, count),
-    }
-}
-
-// The rebuilder's answer.
-fn rebuilt_code(rebuilt: Rebuilt) -> u64
-    requires { ⌜ value (rebuiltReport rebuilt) < 4294967296 ⌝ }
-    ensures { λ r. ⌜ r ≡ coded (rebuiltReport rebuilt) ⌝ }
-{
-    match rebuilt {
-        Rebuilt::Disks(count) => joined(0, count as usize),
-        Rebuilt::Card(fault) => fault_code(fault),
-        Rebuilt::StripLength => 6,
-        Rebuilt::OutsideSet => 8,
-        Rebuilt::StripeLength => 7,
-        Rebuilt::Fatal => 11,
-        Rebuilt::Inconsistent => 12,
-    }
-}
 
 // The encoder: the parity strips of the stripe, each byte the XOR of the same byte of its data disks. A
 // refused call writes nothing.

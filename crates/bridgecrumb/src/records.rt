@@ -1,60 +1,16 @@
 // The calls on record files: the writer, the reader, and where a body stands.
 ghost use mathlib.Core.Path.{_≡_};
 ghost use mathlib.Core.List.{[], _∷_};
-ghost use Prim.Native.Nat.{suc, _<_};
+ghost use Prim.Native.Nat.{suc};
 ghost use lib.ListN.{length};
 ghost use Rattle.flat.specs.Records.{offsetIn, bodyLengthIn};
 ghost use Rattle.flat.specs.Faults.{unlessRefused, recordWriteReport, recordWriteOutput, recordReport, recordColumns, bodyReport};
-ghost use Rattle.record.specs.Reports.{writtenReport, recordFaultReport, thereReport};
-ghost use Rattle.bridgecrumb.specs.Coded.{value, coded, codedFault};
-use crate::fault_code;
-use crate::joined;
+ghost use Rattle.codes.specs.Coded.{coded, codedFault};
+use codes::record_fault_code;
+use codes::record_written_code;
+use codes::there_code;
 use record::BodyCheck;
 use record::RecordCheck;
-use record::RecordFault;
-use record::RecordWritten;
-
-// The writer's answer.
-fn record_written_code(written: RecordWritten) -> u64
-    requires { ⌜ value (writtenReport written) < 4294967296 ⌝ }
-    ensures { λ r. ⌜ r ≡ coded (writtenReport written) ⌝ }
-{
-    match written {
-        RecordWritten::Length(len) => joined(0, len),
-        RecordWritten::Card(fault) => fault_code(fault),
-        RecordWritten::StripLength => 6,
-        RecordWritten::OutsideSet => 8,
-        RecordWritten::StripeLength => 7,
-        RecordWritten::Output => 16,
-    }
-}
-
-// A record's fault.
-fn record_fault_code(fault: RecordFault) -> u64
-    requires { ⌜ value (recordFaultReport fault) < 4294967296 ⌝ }
-    ensures { λ r. ⌜ r ≡ coded (recordFaultReport fault) ⌝ }
-{
-    match fault {
-        RecordFault::Mark => 13,
-        RecordFault::StripLength => 6,
-        RecordFault::Contents => 14,
-        RecordFault::Card(card) => fault_code(card),
-        RecordFault::FileLength => 15,
-    }
-}
-
-// The answer of the call beside the body call.
-fn there_code(there: BodyCheck) -> u64
-    requires { ⌜ value (thereReport there) < 4294967296 ⌝ }
-    ensures { λ r. ⌜ r ≡ coded (thereReport there) ⌝ }
-{
-    match there {
-        BodyCheck::There => 0,
-        BodyCheck::Record(fault) => record_fault_code(fault),
-        BodyCheck::NoDisk => 9,
-        BodyCheck::Lost => 16,
-    }
-}
 
 // The record writer: the record of the stripe at the output's front. A refused call writes nothing.
 #[no_mangle]

@@ -6,7 +6,7 @@ use Prim.Native.Nat.{ℕ, zero, suc, _+_, _*_, _^_, _≤_, _<_}
 use native.Mathlib.Omega.{arith}
 use lib.Count.{ones, ones-cat}
 use Rattle.gf2.specs.If.{if_then_else_}
-use Rattle.gf2.specs.Sets.{has, size}
+use Rattle.gf2.specs.Sets.{size}
 use Rattle.flat.specs.Lists.{count, setOf}
 use Rattle.flat.proofs.Quantifiers.{set-lt}
 

@@ -1,18 +1,13 @@
--- Bytes put into a slice at a place, and the entries and bodies of the strips where the first body's place is known.
+-- The entries and bodies of the strips where the first body's place is known.
 -- Assumes nothing.
 use mathlib.Core.Bool.{not}
-use mathlib.Core.List.{List, _++_}
+use mathlib.Core.List.{List}
 use Prim.Native.Nat.{ℕ, _+_, _*_}
-use lib.ListN.{length, take, drop}
 use Rattle.gf2.specs.If.{if_then_else_}
 use Rattle.gf2.specs.Sets.{has}
 use Rattle.flat.specs.Lists.{count}
 use Rattle.flat.specs.Cards.{cardLength}
 use Rattle.flat.specs.Records.{bodiesAt, entry}
-
--- the bytes, in the place of those that stood there
-unfoldable pub put : List ℕ → ℕ → List ℕ → List ℕ
-put s at new = take at s ++ new ++ drop (at + length new) s
 
 -- where the strips' bodies start, for n disks of which m are parity
 unfoldable pub stripsAt : ℕ → ℕ → ℕ

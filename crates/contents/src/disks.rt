@@ -1,16 +1,17 @@
 // The entries and the bodies of the strips, disk by disk: put by the writer, and compared by the reader.
 ghost use mathlib.Core.Path.{_≡_};
-ghost use Prim.Native.Nat.{ℕ, suc, _+_, _*_, _<_, _≤_};
+ghost use Prim.Native.Nat.{suc, _+_, _*_, _<_, _≤_};
 ghost use lib.Dec.{eqb};
 ghost use lib.ListN.{length, getD};
 ghost use Rattle.flat.specs.Lists.{every, setOf, range, each, same};
 ghost use Rattle.flat.specs.Records.{stripBody, entryIn};
-ghost use Rattle.contents.specs.Places.{put, bodyFrom, stripEntryFrom};
+ghost use Rattle.copies.specs.Put.{put};
+ghost use Rattle.contents.specs.Places.{bodyFrom, stripEntryFrom};
 use crate::body_at;
-use crate::copy;
-use crate::copying::copy_long;
 use crate::stands;
 use crate::strip_entry;
+use copies::copy;
+use copies::copy_long;
 
 // Puts the entries of the disks below n.
 pub fn put_entries(out: &mut [u8], start: usize, l: usize, lost: u32, n: usize)

@@ -2,33 +2,21 @@
 // Writer and reader share the entries: the one puts their bytes, the other compares them.
 //
 // A record's layout is said in flat/specs/Records.antt. `start` is everywhere where the first strip's
-// body goes, after contents and card.
+// body goes, after contents and card. Each contract says what is assumed of the arguments.
 ghost use mathlib.Core.Path.{_≡_};
-ghost use Prim.Native.Nat.{ℕ, _+_, _*_, _%_, _<_, _≤_};
+ghost use Prim.Native.Nat.{_+_, _*_, _%_, _<_, _≤_};
 ghost use mathlib.Core.List.{_++_};
 ghost use lib.ListN.{length, take, drop};
 ghost use Rattle.flat.specs.Lists.{bytes, field, same};
 ghost use Rattle.flat.specs.Records.{entry};
-ghost use Rattle.contents.specs.Places.{put, stripsAt, bodyFrom, stripEntryFrom};
+ghost use Rattle.contents.specs.Places.{stripsAt, bodyFrom, stripEntryFrom};
 
-mod copying;
 mod disks;
 
-pub use copying::copy_long;
 pub use disks::entries_stand;
 pub use disks::lost_in;
 pub use disks::put_bodies;
 pub use disks::put_entries;
-
-// Puts the bytes into the slice at a place.
-pub fn copy(out: &mut [u8], at: usize, new: &[u8])
-    requires { ⌜ at + length (now new) ≤ length (now out) ⌝ }
-    ensures { λ _. ⌜ now (out .exit) ≡ put (now (out .entry)) at (now (new .entry)) ⌝ }
-{
-    for t in 0..new.len() {
-        out[at + t] = new[t];
-    }
-}
 
 // Whether the bytes stand in the slice at a place.
 pub fn stands(s: &[u8], at: usize, wanted: &[u8]) -> bool

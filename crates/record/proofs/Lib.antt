@@ -1,6 +1,2 @@
-pub mod Answers
-pub mod Callers
-pub mod Heads
-pub mod Recorded
+pub mod Places
 pub mod Theorems
-pub mod WriterAnswers

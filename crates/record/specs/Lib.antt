@@ -1,4 +1,2 @@
-pub mod Layout
 pub mod Reports
-pub mod Tests
 pub mod Theorems

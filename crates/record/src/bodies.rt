@@ -6,9 +6,9 @@ ghost use lib.ListN.{length};
 ghost use Rattle.flat.specs.Records.{offsetIn, bodyLengthIn};
 ghost use Rattle.flat.specs.Faults.{unlessRefused, bodyReport, bodyPart};
 ghost use Rattle.record.specs.Reports.{thereReport};
-use crate::reader::RecordCheck;
-use crate::reader::RecordFault;
-use crate::reader::check;
+use record_reader::RecordCheck;
+use record_reader::RecordFault;
+use record_reader::check;
 
 // Whether the strip is there, or the reader's fault, a disk that the code lacks, or a lost disk.
 pub enum BodyCheck {

@@ -20,7 +20,7 @@ use Rattle.flat.proofs.Lists.{length-tabulate, getD-tabulate}
 use Rattle.flat.proofs.Positions.{places}
 use Rattle.blocks.proofs.Written.{Written}
 use Rattle.strips.proofs.Written.{strip}
-use Rattle.strips.proofs.Patched.{disk-of, Patched, patched-none, patched-same, patched-more, patched-all}
+use Rattle.dense.proofs.Patched.{disk-of, Patched, patched-none, patched-same, patched-more, patched-all}
 
 -- a strip that is written is filled
 pub strip-filled : (n l set d : ℕ) (s₀ s : List ℕ) → 0 < l

@@ -1,6 +1,5 @@
 pub mod Lengths
 pub mod Written
-pub mod Patched
 pub mod Filling
 pub mod Vanishing
 pub mod Streamed

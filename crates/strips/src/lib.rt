@@ -14,8 +14,6 @@ ghost use Rattle.flat.specs.Strips.{lengthOk};
 ghost use Rattle.flat.specs.Repairs.{filled, vanishes, allVanish};
 use gf2::Basis;
 
-mod dense;
-
 // 1 to 65,536.
 pub fn length_ok(l: usize) -> bool
     ensures { λ r. ⌜ r ≡ lengthOk l ⌝ }

@@ -1,5 +1,2 @@
-pub mod Digits
-pub mod Puts
-pub mod Pieces
 pub mod Lengths
 pub mod Answers

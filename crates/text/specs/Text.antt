@@ -1,48 +1,14 @@
 -- What a listing prints, as bytes: numbers in decimal, a single space between, each line ended by 0x0A.
 -- Assumes nothing.
 use mathlib.Core.List.{List, [], _∷_, _++_}
-use Prim.Native.Nat.{ℕ, zero, suc, _+_, _/_, _%_}
-use Rattle.gf2.specs.Sets.{size}
+use Prim.Native.Nat.{ℕ}
 use Rattle.flat.specs.Lists.{each}
+use Rattle.decimals.specs.Decimal.{spaced}
+use Rattle.lines.specs.Lines.{lineEnd, codeLine, entryLine, vectorLine}
 
--- the decimal digits of a number in ASCII, no leading zero, so none of 0: the last `most` of them, where there are more
-unfoldable pub digits : ℕ → ℕ → List ℕ
-digits zero n = []
-digits (suc most) zero = []
-digits (suc most) (suc n) = digits most (suc n / 10) ++ ((0x30 + suc n % 10) ∷ [])
-
--- n in decimal: the digits of its tenth, at most n, then its last digit, so that 0 is `0`
-unfoldable pub decimal : ℕ → List ℕ
-decimal n = digits n (n / 10) ++ ((0x30 + n % 10) ∷ [])
-
--- a space and a number
-unfoldable pub spaced : ℕ → List ℕ
-spaced n = 0x20 ∷ decimal n
-
-abbrev pub lineEnd : List ℕ
-lineEnd = 0x0A ∷ []
-
--- the words `code`, `vector` and `refused`
-abbrev pub codeWord : List ℕ
-codeWord = 0x63 ∷ 0x6F ∷ 0x64 ∷ 0x65 ∷ []
-
-abbrev pub vectorWord : List ℕ
-vectorWord = 0x76 ∷ 0x65 ∷ 0x63 ∷ 0x74 ∷ 0x6F ∷ 0x72 ∷ []
-
+-- the word `refused`
 abbrev pub refusedWord : List ℕ
 refusedWord = 0x72 ∷ 0x65 ∷ 0x66 ∷ 0x75 ∷ 0x73 ∷ 0x65 ∷ 0x64 ∷ []
-
--- `code`, k and m
-unfoldable pub codeLine : ℕ → ℕ → List ℕ
-codeLine k m = codeWord ++ spaced k ++ spaced m ++ lineEnd
-
--- the size of a set and its number
-unfoldable pub entryLine : ℕ → List ℕ
-entryLine S = decimal (size S) ++ spaced S ++ lineEnd
-
--- `vector` and its numbers
-unfoldable pub vectorLine : List ℕ → List ℕ
-vectorLine vs = vectorWord ++ each spaced vs ++ lineEnd
 
 -- a listing
 unfoldable pub listingText : ℕ → ℕ → List ℕ → List ℕ → List ℕ

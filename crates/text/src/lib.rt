@@ -1,13 +1,13 @@
 // The text that a listing prints, rendered into a lent buffer: its length first, then its bytes.
 //
 // What the text is stands in specs/Text.antt, and what is answered for a buffer in specs/Answers.antt.
+// Assumes nothing.
 ghost use mathlib.Core.Path.{_≡_};
 ghost use Prim.Native.Nat.{_+_, _≤_};
 ghost use lib.ListN.{length};
-ghost use Rattle.flat.specs.Lists.{each};
-ghost use Rattle.text.specs.Text.{decimal, spaced, codeLine, entryLine, vectorLine, listingText, refusedText};
+ghost use Rattle.decimals.specs.Places.{Put};
+ghost use Rattle.text.specs.Text.{listingText, refusedText};
 ghost use Rattle.text.specs.Answers.{textAnswer, textBuffer};
-ghost use Rattle.text.specs.Places.{Put};
 
 // The text was written and is so long; or the buffer is too short and was left as it was, and the
 // text would be so long.
@@ -16,153 +16,13 @@ pub enum Text {
     Short(usize),
 }
 
-// How many digits n has.
-fn decimal_length(n: usize) -> usize
-    ensures { λ r. ⌜ (r ≡ length (decimal n)) × (r ≤ 20) ⌝ }
-{
-    let mut digits = 1;
-    let mut rest = n;
-    while 9 < rest {
-        rest = rest / 10;
-        digits += 1;
-    }
-    digits
-}
-
-// The length of a set's line.
-fn entry_length(set: u32) -> usize
-    ensures { λ r. ⌜ (r ≡ length (entryLine set)) × (r ≤ 42) ⌝ }
-{
-    decimal_length(gf2::size(set) as usize) + decimal_length(set as usize) + 2
-}
-
-// The length of all sets' lines.
-fn entries_length(entries: &[u32]) -> usize
-    requires { ⌜ length (now entries) ≤ 65536 ⌝ }
-    ensures { λ r. ⌜ (r ≡ length (each entryLine (now (entries .entry)))) × (r ≤ 2752512) ⌝ }
-{
-    let mut sum = 0;
-    for i in 0..entries.len() {
-        sum += entry_length(entries[i]);
-    }
-    sum
-}
-
-// The length of all numbers, each with a space before it.
-fn numbers_length(numbers: &[usize]) -> usize
-    requires { ⌜ length (now numbers) ≤ 32 ⌝ }
-    ensures { λ r. ⌜ (r ≡ length (each spaced (now (numbers .entry)))) × (r ≤ 672) ⌝ }
-{
-    let mut sum = 0;
-    for i in 0..numbers.len() {
-        sum += 1 + decimal_length(numbers[i]);
-    }
-    sum
-}
-
 // The length of a listing.
 fn listing_length(k: usize, m: usize, entries: &[u32], vector: &[usize]) -> usize
     requires { ⌜ (length (now entries) ≤ 65536) × (length (now vector) ≤ 32) ⌝ }
     ensures { λ r. ⌜ r ≡ length (listingText k m (now (entries .entry)) (now (vector .entry))) ⌝ }
 {
-    let code = decimal_length(k) + decimal_length(m) + 7;
-    code + entries_length(entries) + numbers_length(vector) + 7
-}
-
-// Puts the bytes at a place, and answers the next place. So do all the functions below.
-fn put(bytes: &[u8], out: &mut [u8], at: usize) -> usize
-    requires { ⌜ at + length (now bytes) ≤ length (now out) ⌝ }
-    ensures { λ r. ⌜ Put (now (bytes .entry)) at (now (out .entry)) (now (out .exit)) r ⌝ }
-{
-    let mut next = at;
-    for i in 0..bytes.len() {
-        out[next] = bytes[i];
-        next += 1;
-    }
-    next
-}
-
-// A number in decimal, from its last digit to its first.
-fn put_decimal(n: usize, out: &mut [u8], at: usize) -> usize
-    requires { ⌜ at + length (decimal n) ≤ length (now out) ⌝ }
-    ensures { λ r. ⌜ Put (decimal n) at (now (out .entry)) (now (out .exit)) r ⌝ }
-{
-    let next = at + decimal_length(n);
-    let mut last = next - 1;
-    let mut rest = n;
-    while 9 < rest {
-        out[last] = b'0' + (rest % 10) as u8;
-        rest = rest / 10;
-        last -= 1;
-    }
-    out[last] = b'0' + rest as u8;
-    next
-}
-
-// A space and a number.
-fn put_spaced(n: usize, out: &mut [u8], at: usize) -> usize
-    requires { ⌜ at + length (spaced n) ≤ length (now out) ⌝ }
-    ensures { λ r. ⌜ Put (spaced n) at (now (out .entry)) (now (out .exit)) r ⌝ }
-{
-    out[at] = b' ';
-    put_decimal(n, out, at + 1)
-}
-
-// A set's line.
-fn put_entry(set: u32, out: &mut [u8], at: usize) -> usize
-    requires { ⌜ at + length (entryLine set) ≤ length (now out) ⌝ }
-    ensures { λ r. ⌜ Put (entryLine set) at (now (out .entry)) (now (out .exit)) r ⌝ }
-{
-    let size = gf2::size(set) as usize;
-    let number = set as usize;
-    let after_size = put_decimal(size, out, at);
-    let after_number = put_spaced(number, out, after_size);
-    put(b"\n", out, after_number)
-}
-
-// All sets' lines.
-fn put_entries(entries: &[u32], out: &mut [u8], at: usize) -> usize
-    requires { ⌜ at + length (each entryLine (now entries)) ≤ length (now out) ⌝ }
-    ensures { λ r. ⌜ Put (each entryLine (now (entries .entry))) at (now (out .entry)) (now (out .exit)) r ⌝ }
-{
-    let mut next = at;
-    for i in 0..entries.len() {
-        next = put_entry(entries[i], out, next);
-    }
-    next
-}
-
-// All numbers, each with a space before it.
-fn put_numbers(numbers: &[usize], out: &mut [u8], at: usize) -> usize
-    requires { ⌜ at + length (each spaced (now numbers)) ≤ length (now out) ⌝ }
-    ensures { λ r. ⌜ Put (each spaced (now (numbers .entry))) at (now (out .entry)) (now (out .exit)) r ⌝ }
-{
-    let mut next = at;
-    for i in 0..numbers.len() {
-        next = put_spaced(numbers[i], out, next);
-    }
-    next
-}
-
-// The first line of a listing.
-fn put_code(k: usize, m: usize, out: &mut [u8], at: usize) -> usize
-    requires { ⌜ at + length (codeLine k m) ≤ length (now out) ⌝ }
-    ensures { λ r. ⌜ Put (codeLine k m) at (now (out .entry)) (now (out .exit)) r ⌝ }
-{
-    let after_word = put(b"code", out, at);
-    let after_k = put_spaced(k, out, after_word);
-    let after_m = put_spaced(m, out, after_k);
-    put(b"\n", out, after_m)
-}
-
-// The last line of a listing.
-fn put_vector(vector: &[usize], out: &mut [u8], at: usize) -> usize
-    requires { ⌜ at + length (vectorLine (now vector)) ≤ length (now out) ⌝ }
-    ensures { λ r. ⌜ Put (vectorLine (now (vector .entry))) at (now (out .entry)) (now (out .exit)) r ⌝ }
-{
-    let after_word = put(b"vector", out, at);
-    let after_numbers = put_numbers(vector, out, after_word);
-    put(b"\n", out, after_numbers)
+    let code = decimals::decimal_length(k) + decimals::decimal_length(m) + 7;
+    code + lines::entries_length(entries) + decimals::numbers_length(vector) + 7
 }
 
 // A listing.
@@ -177,9 +37,9 @@ fn put_listing(
     requires { ⌜ at + length (listingText k m (now entries) (now vector)) ≤ length (now out) ⌝ }
     ensures { λ r. ⌜ Put (listingText k m (now (entries .entry)) (now (vector .entry))) at (now (out .entry)) (now (out .exit)) r ⌝ }
 {
-    let after_code = put_code(k, m, out, at);
-    let after_entries = put_entries(entries, out, after_code);
-    put_vector(vector, out, after_entries)
+    let after_code = lines::put_code(k, m, out, at);
+    let after_entries = lines::put_entries(entries, out, after_code);
+    lines::put_vector(vector, out, after_entries)
 }
 
 // The line of a refusal.
@@ -187,9 +47,9 @@ fn put_refused(number: usize, out: &mut [u8], at: usize) -> usize
     requires { ⌜ at + length (refusedText number) ≤ length (now out) ⌝ }
     ensures { λ r. ⌜ Put (refusedText number) at (now (out .entry)) (now (out .exit)) r ⌝ }
 {
-    let after_word = put(b"refused", out, at);
-    let after_number = put_spaced(number, out, after_word);
-    put(b"\n", out, after_number)
+    let after_word = decimals::put(b"refused", out, at);
+    let after_number = decimals::put_spaced(number, out, after_word);
+    decimals::put(b"\n", out, after_number)
 }
 
 // The listing into the buffer, where it fits; else its length.
@@ -211,7 +71,7 @@ pub fn refused(number: usize, out: &mut [u8]) -> Text
     ensures { λ r. ⌜ r ≡ textAnswer (refusedText number) (length (now (out .entry))) ⌝ }
     ensures { λ _. ⌜ now (out .exit) ≡ textBuffer (refusedText number) (now (out .entry)) ⌝ }
 {
-    let line = decimal_length(number) + 9;
+    let line = decimals::decimal_length(number) + 9;
     if out.len() < line {
         return Text::Short(line);
     }

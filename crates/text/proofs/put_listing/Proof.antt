@@ -5,9 +5,10 @@ use Prim.Native.Nat.{_+_, _≤_}
 use denote.Ref.{now}
 use lib.ListN.{length}
 use Rattle.flat.specs.Lists.{each}
-use Rattle.text.specs.Text.{codeLine, entryLine, vectorLine, listingText}
-use Rattle.text.specs.Places.{Put}
-use Rattle.text.proofs.Puts.{put-then, put-length, front, behind}
+use Rattle.lines.specs.Lines.{codeLine, entryLine, vectorLine}
+use Rattle.text.specs.Text.{listingText}
+use Rattle.decimals.specs.Places.{Put}
+use Rattle.decimals.proofs.Puts.{put-then, put-length, front, behind}
 use Rattle.text.proofs.put_listing.Statement.{statement}
 use Rattle.text.proofs.put_listing.Tie as tie
 

@@ -5,9 +5,11 @@ use Prim.Native.Nat.{_+_, _≤_}
 use borrow.Author.Needs.{needs}
 use denote.Ref.{now}
 use lib.ListN.{length}
-use Rattle.text.specs.Text.{spaced, lineEnd, refusedWord, refusedText}
-use Rattle.text.specs.Places.{Put}
-use Rattle.text.proofs.Puts.{put-then, put-length, front, behind}
+use Rattle.decimals.specs.Decimal.{spaced}
+use Rattle.lines.specs.Lines.{lineEnd}
+use Rattle.text.specs.Text.{refusedWord, refusedText}
+use Rattle.decimals.specs.Places.{Put}
+use Rattle.decimals.proofs.Puts.{put-then, put-length, front, behind}
 use Rattle.text.proofs.put_refused.Statement.{statement}
 use Rattle.text.proofs.put_refused.Tie as tie
 

@@ -8,7 +8,7 @@ use lib.ListN.{length}
 use Rattle.text.specs.Text.{refusedText}
 use Rattle.text.proofs.Lengths.{length-refused}
 use Rattle.text.proofs.Answers.{too-short, long-enough}
-use Rattle.text.proofs.Puts.{put-length}
+use Rattle.decimals.proofs.Puts.{put-length}
 use Rattle.text.proofs.refused.Statement.{statement}
 use Rattle.text.proofs.refused.Tie as tie
 

@@ -9,8 +9,8 @@ use Rattle.flat.specs.Faults.{Report, bodyReport}
 use Rattle.flat.proofs.Reports.{unless-accepted, unless-refused}
 use Rattle.record.specs.declared.bodies.BodyCheck.{BodyCheck}
 use Rattle.record.specs.Reports.{thereReport}
-use Rattle.record.proofs.Callers.{unless-bad}
-use Rattle.bridgecrumb.specs.Coded.{value, coded}
+use Rattle.record_reader.proofs.Callers.{unless-bad}
+use Rattle.codes.specs.Coded.{value, coded}
 use Rattle.bridgecrumb.proofs.RecordBounds.{body-value}
 use Rattle.bridgecrumb.proofs.records.bridgecrumb_record_body.Statement.{statement}
 use Rattle.bridgecrumb.proofs.records.bridgecrumb_record_body.Tie as tie

@@ -7,9 +7,9 @@ use borrow.Author.Needs.{needs}
 use denote.Ref.{now}
 use Rattle.flat.specs.Faults.{Report, accepted, recordReport}
 use Rattle.flat.proofs.Reports.{unless-accepted}
-use Rattle.record.specs.Reports.{recordFaultReport, checkReport}
-use Rattle.record.proofs.Callers.{unless-bad}
-use Rattle.bridgecrumb.specs.Coded.{value, coded, codedFault}
+use Rattle.record_reader.specs.Reports.{recordFaultReport, checkReport}
+use Rattle.record_reader.proofs.Callers.{unless-bad}
+use Rattle.codes.specs.Coded.{value, coded, codedFault}
 use Rattle.bridgecrumb.proofs.RecordBounds.{record-value}
 use Rattle.bridgecrumb.proofs.records.bridgecrumb_record_read.Statement.{statement}
 use Rattle.bridgecrumb.proofs.records.bridgecrumb_record_read.Tie as tie

@@ -4,7 +4,7 @@ use mathlib.Core.Path.{_≡_, refl}
 use Prim.Native.Nat.{suc, _-_, _≤_}
 use native.Mathlib.Omega.{arith}
 use Rattle.flat.specs.Records.{stripBody}
-use Rattle.contents.proofs.Putting.{Laid, laid-none, laid-more, laid-all}
+use Rattle.contents.proofs.Runs.{Laid, laid-none, laid-more, laid-all}
 use Rattle.contents.proofs.Lengths.{strip-room, body-next, bodies-end, body-grows}
 use borrow.Author.Needs.{needs}
 use Rattle.contents.proofs.disks.put_bodies.Statement.{statement}

@@ -4,7 +4,7 @@ use mathlib.Core.Path.{_≡_}
 use Prim.Native.Nat.{_-_, _≤_}
 use native.Mathlib.Omega.{arith}
 use Rattle.contents.specs.Places.{stripEntryFrom}
-use Rattle.contents.proofs.Putting.{Laid, laid-none, laid-more, laid-all}
+use Rattle.contents.proofs.Runs.{Laid, laid-none, laid-more, laid-all}
 use Rattle.contents.proofs.Lengths.{length-strip-entry, length-entries}
 use borrow.Author.Needs.{needs}
 use Rattle.contents.proofs.disks.put_entries.Statement.{statement}

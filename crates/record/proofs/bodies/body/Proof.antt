@@ -1,7 +1,7 @@
 -- `record::bodies::body` meets its contract: the part is the file's own.
 -- Assumes nothing.
 use borrow.Author.Needs.{needs}
-use Rattle.record.proofs.Callers.{body-lent}
+use Rattle.record.proofs.Places.{body-lent}
 use Rattle.record.proofs.bodies.body.Statement.{statement}
 use Rattle.record.proofs.bodies.body.Tie as tie
 

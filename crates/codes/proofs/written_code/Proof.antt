@@ -1,0 +1,43 @@
+-- `codes::written_code` meets its contract. Assumes nothing.
+use mathlib.Core.Path.{sym, ap, _∙_, subst}
+use Prim.Native.Nat.{_<_}
+use borrow.Author.Needs.{needs}
+use Rattle.card.specs.declared.CardWritten.{CardWritten}
+use Rattle.card.specs.Reports.{writtenReport}
+use Rattle.codes.specs.Coded.{value, coded}
+use Rattle.codes.proofs.written_code.Statement.{statement}
+use Rattle.codes.proofs.written_code.Tie as tie
+
+enum-told : tie.Need-enum-told
+enum-told c = search needs
+
+enum-known-written : tie.Need-enum-known-written
+enum-known-written c = search needs
+
+fault-code-requires : tie.Need-fault-code-requires
+fault-code-requires c κs =
+    subst (λ (w : CardWritten). value (writtenReport w) < 4294967296) (c .before .written .given .1) (c .before .before .before .pre)
+
+enum-told-2 : tie.Need-enum-told-2
+enum-told-2 c = search needs
+
+returns : tie.Need-returns
+returns c = ap (λ (w : CardWritten). coded (writtenReport w)) (sym (c .enum-told .given .1))
+
+returns-2 : tie.Need-returns-2
+returns-2 c = c .fault-code .ensures ∙ ap (λ (w : CardWritten). coded (writtenReport w)) (sym (c .before .before .written .given .1))
+
+returns-3 : tie.Need-returns-3
+returns-3 c = ap (λ (w : CardWritten). coded (writtenReport w)) (sym (c .enum-told2 .given .1))
+
+pub written-code-spec : {M : Type 1} → statement M
+written-code-spec =
+    tie.close
+    (tie.spec
+    enum-told
+    enum-known-written
+    fault-code-requires
+    enum-told-2
+    returns
+    returns-2
+    returns-3)

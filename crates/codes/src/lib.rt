@@ -1,0 +1,127 @@
+// The answers of the calls as one number each, for a caller in C: the report's number, 0 where the call is
+// accepted, and 256 times the value that the report names, if it names one. Here stand those of the calls
+// on cards, sets and stripes, in `records` those of the calls on record files.
+//
+// Every function assumes that the value is below 2 ^ 32, so that the number fits into 64 bits.
+ghost use mathlib.Core.Path.{_≡_};
+ghost use Prim.Native.Nat.{_+_, _*_, _<_};
+ghost use Rattle.card.specs.Reports.{faultReport, writtenReport};
+ghost use Rattle.erasures.specs.Reports.{verdictReport, alikeReport};
+ghost use Rattle.equations.specs.Reports.{toldReport};
+ghost use Rattle.encoder.specs.Reports.{encodedReport};
+ghost use Rattle.rebuilder.specs.Reports.{rebuiltReport};
+ghost use Rattle.codes.specs.Coded.{value, coded};
+use card::CardFault;
+use card::CardWritten;
+use encoder::Encoded;
+use equations::Told;
+use erasures::Likeness;
+use erasures::SetVerdict;
+use rebuilder::Rebuilt;
+
+mod records;
+
+pub use records::record_fault_code;
+pub use records::record_written_code;
+pub use records::there_code;
+
+// A report's number and its value as one number.
+pub fn joined(number: u64, value: usize) -> u64
+    requires { ⌜ (number < 256) × (value < 4294967296) ⌝ }
+    ensures { λ r. ⌜ r ≡ number + 256 * value ⌝ }
+{
+    number + 256 * (value as u64)
+}
+
+// A card's fault.
+pub fn fault_code(fault: CardFault) -> u64
+    requires { ⌜ value (faultReport fault) < 4294967296 ⌝ }
+    ensures { λ r. ⌜ r ≡ coded (faultReport fault) ⌝ }
+{
+    match fault {
+        CardFault::Short => 1,
+        CardFault::DataCount => 2,
+        CardFault::ParityCount => 3,
+        CardFault::Length => 4,
+        CardFault::Column(j) => joined(5, j),
+    }
+}
+
+// The card writer's answer.
+pub fn written_code(written: CardWritten) -> u64
+    requires { ⌜ value (writtenReport written) < 4294967296 ⌝ }
+    ensures { λ r. ⌜ r ≡ coded (writtenReport written) ⌝ }
+{
+    match written {
+        CardWritten::Done => 0,
+        CardWritten::Refused(fault) => fault_code(fault),
+        CardWritten::Buffer => 7,
+    }
+}
+
+// The encoder's answer.
+pub fn encoded_code(encoded: Encoded) -> u64
+    requires { ⌜ value (encodedReport encoded) < 4294967296 ⌝ }
+    ensures { λ r. ⌜ r ≡ coded (encodedReport encoded) ⌝ }
+{
+    match encoded {
+        Encoded::Done => 0,
+        Encoded::Card(fault) => fault_code(fault),
+        Encoded::StripLength => 6,
+        Encoded::StripeLength => 7,
+    }
+}
+
+// The verdict call's answer.
+pub fn verdict_code(verdict: SetVerdict) -> u64
+    requires { ⌜ value (verdictReport verdict) < 4294967296 ⌝ }
+    ensures { λ r. ⌜ r ≡ coded (verdictReport verdict) ⌝ }
+{
+    match verdict {
+        SetVerdict::Fatal => joined(0, 1),
+        SetVerdict::Recoverable => joined(0, 0),
+        SetVerdict::Card(fault) => fault_code(fault),
+        SetVerdict::OutsideSet => 8,
+    }
+}
+
+// The answer to whether two cards are alike.
+pub fn likeness_code(likeness: Likeness) -> u64
+    requires { ⌜ value (alikeReport likeness) < 4294967296 ⌝ }
+    ensures { λ r. ⌜ r ≡ coded (alikeReport likeness) ⌝ }
+{
+    match likeness {
+        Likeness::Alike => joined(0, 1),
+        Likeness::Different => joined(0, 0),
+        Likeness::Card(fault) => fault_code(fault),
+    }
+}
+
+// The equation call's answer.
+pub fn told_code(told: Told) -> u64
+    requires { ⌜ value (toldReport told) < 4294967296 ⌝ }
+    ensures { λ r. ⌜ r ≡ coded (toldReport told) ⌝ }
+{
+    match told {
+        Told::Count(count) => joined(0, count),
+        Told::Card(fault) => fault_code(fault),
+        Told::NoDisk => 9,
+        Told::Short(count) => joined(10, count),
+    }
+}
+
+// The rebuilder's answer.
+pub fn rebuilt_code(rebuilt: Rebuilt) -> u64
+    requires { ⌜ value (rebuiltReport rebuilt) < 4294967296 ⌝ }
+    ensures { λ r. ⌜ r ≡ coded (rebuiltReport rebuilt) ⌝ }
+{
+    match rebuilt {
+        Rebuilt::Disks(count) => joined(0, count as usize),
+        Rebuilt::Card(fault) => fault_code(fault),
+        Rebuilt::StripLength => 6,
+        Rebuilt::OutsideSet => 8,
+        Rebuilt::StripeLength => 7,
+        Rebuilt::Fatal => 11,
+        Rebuilt::Inconsistent => 12,
+    }
+}

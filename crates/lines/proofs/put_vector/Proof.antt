@@ -1,0 +1,73 @@
+-- `lines::put_vector` meets its contract: the word, the numbers and the line end, one after the other.
+-- Assumes nothing.
+use mathlib.Core.List.{_++_}
+use Prim.Native.Nat.{_+_, _≤_}
+use borrow.Author.Needs.{needs}
+use denote.Ref.{now}
+use lib.ListN.{length}
+use Rattle.flat.specs.Lists.{each}
+use Rattle.decimals.specs.Decimal.{spaced}
+use Rattle.lines.specs.Lines.{lineEnd, vectorWord, vectorLine}
+use Rattle.decimals.specs.Places.{Put}
+use Rattle.decimals.proofs.Puts.{put-then, put-length, front, behind}
+use Rattle.lines.proofs.put_vector.Statement.{statement}
+use Rattle.lines.proofs.put_vector.Tie as tie
+
+-- the pieces have room
+room : (c : tie.Start) → c .args .at + length (vectorWord ++ each spaced (now (c .args .vector)) ++ lineEnd) ≤ length (now (c .args .out))
+unfolding vectorLine
+room c = c .pre
+
+slice-aggregate-put : tie.Need-slice-aggregate-put
+slice-aggregate-put c = search needs
+
+put-requires : tie.Need-put-requires
+put-requires c κs =
+    let s = c .before .before .before .before in
+    let a = s .args in
+    front vectorWord (each spaced (now (a .vector))) (a .at) (front (vectorWord ++ each spaced (now (a .vector))) lineEnd (a .at) (room s))
+
+put-numbers-requires : tie.Need-put-numbers-requires
+put-numbers-requires c κs =
+    let p = c .before .before .before in
+    let s = p .before .before .before .before .before in
+    let a = s .args in
+    behind (each spaced (now (a .vector))) (p .put .ensures) (front (vectorWord ++ each spaced (now (a .vector))) lineEnd (a .at) (room s))
+
+-- the word and what follows it are put
+both : (c : tie.After-put-numbers) →
+    let a = c .before .before .before .before .before .before .before .before .before .args in
+    Put (vectorWord ++ each spaced (now (a .vector))) (a .at) (now (a .out)) (c .put-numbers .last .1 .0) (c .put-numbers .result)
+both c = put-then (c .before .before .before .before .put .ensures) (c .put-numbers .ensures)
+
+slice-aggregate-put-2 : tie.Need-slice-aggregate-put-2
+slice-aggregate-put-2 c = search needs
+
+put-requires-2 : tie.Need-put-requires-2
+put-requires-2 c κs =
+    let p = c .before .before .before .before in
+    behind lineEnd (both p) (room (p .before .before .before .before .before .before .before .before .before))
+
+whole : (c : tie.After-put2) →
+    let a = c .before .before .before .before .before .before .before .before .before .before .before .before .before .before .args in
+    Put (vectorLine (now (a .vector))) (a .at) (now (a .out)) (c .put2 .last .1 .0) (c .put2 .result)
+unfolding vectorLine
+whole c = put-then (both (c .before .before .before .before .before)) (c .put2 .ensures)
+
+same-length : tie.Need-same-length
+same-length c = put-length (whole (c .before .before))
+
+returns : tie.Need-returns
+returns c = whole (c .before .before)
+
+pub put-vector-spec : {M : Type 1} → statement M
+put-vector-spec =
+    tie.close
+    (tie.spec
+    slice-aggregate-put
+    put-requires
+    put-numbers-requires
+    slice-aggregate-put-2
+    put-requires-2
+    same-length
+    returns)

@@ -1,0 +1,93 @@
+-- What a caller of the reader's check knows from its answer: of a good record its counts and its card, and of a bad one that its fault
+-- is what the caller's call answers.
+-- Assumes nothing.
+use mathlib.Core.Path.{_≡_, sym, ap, ap₂, _∙_}
+use mathlib.Core.List.{List, [], _∷_}
+use Prim.Native.Nat.{ℕ, _+_, _-_, _*_, _≤_}
+use native.Mathlib.Omega.{arith}
+use lib.ListN.{length, take, drop, replicate}
+use Rattle.flat.specs.Lists.{padded}
+use Rattle.flat.specs.Cards.{Code, codeOf, disks, cardLength}
+use Rattle.flat.specs.Records.{entryCount, bodiesAt, bodyAt, recordLength, offsetIn, bodyLengthIn, bodyIn}
+use Rattle.flat.specs.Faults.{Report, accepted, unlessRefused, cardReport, cardColumns, withRecord, recordReport, recordColumns}
+use Rattle.flat.proofs.Reports.{unless-accepted, unless-refused}
+use Rattle.flat.proofs.Cards.{accepted-card, count-in}
+use Rattle.flat.proofs.Entries.{length-in}
+use Rattle.flat.proofs.Received.{Received, received, with-refused-record}
+use Rattle.card.specs.declared.CardFault.the-variants as card
+use Rattle.card.proofs.Laws.{unless-fault}
+use Rattle.contents.specs.Places.{stripsAt}
+use Rattle.record_reader.specs.declared.RecordFault.{RecordFault}
+use Rattle.record_reader.specs.declared.RecordFault.the-variants as fault
+use Rattle.record_reader.specs.Reports.{recordFaultReport}
+
+-- ---- a bad record
+
+-- a report that is a fault's refuses
+module _ {A : Type 0} where
+  pub unless-bad : (f : RecordFault) (r : Report) (new old : A) → recordFaultReport f ≡ r → unlessRefused r new old ≡ old
+  unless-bad fault.Mark r new old e = unless-refused r _ _ new old (sym e)
+  unless-bad fault.StripLength r new old e = unless-refused r _ _ new old (sym e)
+  unless-bad fault.Contents r new old e = unless-refused r _ _ new old (sym e)
+  unless-bad (fault.Card f) r new old e = unless-fault f r new old e
+  unless-bad fault.FileLength r new old e = unless-refused r _ _ new old (sym e)
+
+pub bad-record : (file : List ℕ) (f : RecordFault) (answer : Code → Report) → recordFaultReport f ≡ recordReport file
+    → withRecord file answer ≡ recordFaultReport f
+bad-record file fault.Mark answer e = with-refused-record file _ _ answer (sym e)
+bad-record file fault.StripLength answer e = with-refused-record file _ _ answer (sym e)
+bad-record file fault.Contents answer e = with-refused-record file _ _ answer (sym e)
+bad-record file (fault.Card card.Short) answer e = with-refused-record file _ _ answer (sym e)
+bad-record file (fault.Card card.DataCount) answer e = with-refused-record file _ _ answer (sym e)
+bad-record file (fault.Card card.ParityCount) answer e = with-refused-record file _ _ answer (sym e)
+bad-record file (fault.Card card.Length) answer e = with-refused-record file _ _ answer (sym e)
+bad-record file (fault.Card (card.Column j)) answer e = with-refused-record file _ _ answer (sym e)
+bad-record file fault.FileLength answer e = with-refused-record file _ _ answer (sym e)
+
+-- it has no columns
+pub columns-none : (file : List ℕ) (f : RecordFault) → recordFaultReport f ≡ recordReport file → replicate 16 0 ≡ recordColumns file
+unfolding recordColumns padded
+columns-none file f e = sym (ap (padded 16) (unless-bad f (recordReport file) (codeOf (bodyIn file 0) .columns) [] e))
+
+-- ---- a good record
+
+-- where the check found it good
+pub record GoodRecord (file : List ℕ) (k m L S : ℕ) : Type 0 where
+  pub k-in : (1 ≤ k) × (k ≤ 16)
+  pub m-in : (1 ≤ m) × (m ≤ 16)
+  pub short : L ≤ 65536
+  -- contents and card do not lie past the end
+  pub front : stripsAt (k + m) m ≤ length file
+  pub found : recordReport file ≡ accepted (k ∷ m ∷ L ∷ S ∷ [])
+  pub known : Received file k m L S
+
+pub good : (file : List ℕ) (k m L S : ℕ) → accepted (k ∷ m ∷ L ∷ S ∷ []) ≡ recordReport file → GoodRecord file k m L S
+unfolding stripsAt bodiesAt cardLength recordLength bodyAt entryCount disks
+good file k m L S e =
+    let r = received file k m L S (sym e) in
+    let sound = accepted-card (bodyIn file 0) k m (r .card-ok) .sound in
+    record {
+      k-in = count-in k (sound .k-ok);
+      m-in = count-in m (sound .m-ok);
+      short = length-in L (r .length-ok) .1;
+      front = omega (arith, r .size, r .is-k, r .is-m);
+      found = sym e;
+      known = r;
+    }
+
+module _ (file : List ℕ) (k m L S : ℕ) (g : GoodRecord file k m L S) where
+  -- the card, as the code lends it
+  pub card-lent : (start : ℕ) → start ≡ stripsAt (k + m) m → take (start - (20 + 10 * (k + m))) (drop (20 + 10 * (k + m)) file) ≡ bodyIn file 0
+  unfolding bodyIn stripsAt bodiesAt cardLength
+  card-lent start e =
+      let r = g .known in
+      let at : 20 + 10 * (k + m) ≡ offsetIn file 0 = omega (arith, r .card-at) in
+      let len : start - (20 + 10 * (k + m)) ≡ bodyLengthIn file 0 = omega (arith, r .card-length, e) in
+      ap₂ (λ (x y : ℕ). take x (drop y file)) len at
+
+  pub columns-good : (card columns : List ℕ) → card ≡ bodyIn file 0 → columns ≡ cardColumns card → columns ≡ recordColumns file
+  unfolding cardColumns recordColumns
+  columns-good card columns is e =
+      let new = codeOf (bodyIn file 0) .columns in
+      e ∙ ap cardColumns is
+      ∙ ap (padded 16) (unless-accepted (cardReport (bodyIn file 0)) _ new [] (g .known .card-ok) ∙ sym (unless-accepted (recordReport file) _ new [] (g .found)))

@@ -1,0 +1,4 @@
+pub mod Answers
+pub mod Callers
+pub mod Heads
+pub mod Theorems

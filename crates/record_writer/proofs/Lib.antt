@@ -1,0 +1,3 @@
+pub mod Recorded
+pub mod Theorems
+pub mod WriterAnswers

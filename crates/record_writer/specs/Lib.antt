@@ -1,0 +1,4 @@
+pub mod Layout
+pub mod Reports
+pub mod Tests
+pub mod Theorems

@@ -1,0 +1,115 @@
+// The record writer: it puts the record of a stripe, without the strips of the lost disks, at the
+// output's front, or refuses and leaves the output as it was.
+//
+// Every byte string, number and buffer is a legal argument of `write`. A record's layout is said in
+// flat/specs/Records.antt, and what is answered for which input in flat/specs/Faults.antt.
+ghost use mathlib.Core.Path.{_≡_};
+ghost use mathlib.Core.List.{[]};
+ghost use Prim.Native.Nat.{_+_, _*_, _≤_};
+ghost use lib.Dec.{eqb};
+ghost use lib.ListN.{length};
+ghost use Rattle.flat.specs.Cards.{code};
+ghost use Rattle.flat.specs.Faults.{unlessRefused, recordWriteReport, recordWriteOutput};
+ghost use Rattle.copies.specs.Put.{put};
+ghost use Rattle.contents.specs.Places.{bodyFrom};
+ghost use Rattle.record_writer.specs.Layout.{recordFrom};
+ghost use Rattle.record_writer.specs.Reports.{writtenReport};
+ghost use Rattle.record_writer.specs.Tests.{written};
+use card::CardCheck;
+use card::CardFault;
+
+// The writer's answer: how long the record is, the card's fault, a strip length that is none, a lost set
+// with a disk that the code lacks, a stripe of another length, or an output that is too short.
+pub enum RecordWritten {
+    Length(usize),
+    Card(CardFault),
+    StripLength,
+    OutsideSet,
+    StripeLength,
+    Output,
+}
+
+// Whether the record is to be written.
+fn accepts(answer: RecordWritten) -> bool
+    ensures { λ r. ⌜ r ≡ eqb (writtenReport answer .number) 0 ⌝ }
+{
+    match answer {
+        RecordWritten::Length(_) => true,
+        RecordWritten::Card(_) => false,
+        RecordWritten::StripLength => false,
+        RecordWritten::OutsideSet => false,
+        RecordWritten::StripeLength => false,
+        RecordWritten::Output => false,
+    }
+}
+
+// What is answered for a good card of k and m, a stripe of size bytes and an output of room bytes.
+fn decide(k: usize, m: usize, l: usize, lost: u32, size: usize, room: usize) -> RecordWritten
+    requires { ⌜ (1 ≤ k) × (k ≤ 16) × (m ≤ 16) ⌝ }
+    ensures { λ r. ⌜ writtenReport r ≡ written (code k m []) l lost size room ⌝ }
+{
+    let n = k + m;
+    if !strips::length_ok(l) {
+        return RecordWritten::StripLength;
+    }
+    if !gf2::below(lost, n as u32) {
+        return RecordWritten::OutsideSet;
+    }
+    if size != n * l {
+        return RecordWritten::StripeLength;
+    }
+    let t = contents::body_at(contents::strips_at(n, m), l, lost, n);
+    if room < t {
+        return RecordWritten::Output;
+    }
+    RecordWritten::Length(t)
+}
+
+// Puts the mark, the contents, the card and the bodies.
+fn put_record(card: &[u8], n: usize, l: usize, lost: u32, stripe: &[u8], out: &mut [u8])
+    requires { ⌜ (n ≤ 32) × (l ≤ 65536) × (length (now card) ≤ 34) × (n * l ≤ length (now stripe)) × (bodyFrom (20 + 10 * n + length (now card)) l lost n ≤ length (now out)) ⌝ }
+    ensures { λ _. ⌜ now (out .exit) ≡ put (now (out .entry)) 0 (recordFrom (now (card .entry)) n l lost (now (stripe .entry))) ⌝ }
+{
+    let bodies = 20 + 10 * n;
+    let start = bodies + card.len();
+    copies::copy(out, 0, b"FXC1");
+    let sizes = contents::sizes(l, n + 1);
+    copies::copy(out, 4, &sizes);
+    let entry = contents::entry(0, 0, bodies, card.len());
+    copies::copy(out, 10, &entry);
+    contents::put_entries(out, start, l, lost, n);
+    copies::copy(out, bodies, card);
+    contents::put_bodies(out, start, l, lost, stripe, n);
+}
+
+// The writer, for a good card of k and m.
+fn write_good(
+    card: &[u8],
+    k: usize,
+    m: usize,
+    l: usize,
+    lost: u32,
+    stripe: &[u8],
+    out: &mut [u8],
+) -> RecordWritten
+    requires { ⌜ (1 ≤ k) × (k ≤ 16) × (m ≤ 16) × (length (now card) ≡ 2 + 2 * m) ⌝ }
+    ensures { λ r. ⌜ writtenReport r ≡ written (code k m []) l lost (length (now (stripe .entry))) (length (now (out .entry))) ⌝ }
+    ensures { λ r. ⌜ now (out .exit) ≡ unlessRefused (writtenReport r) (put (now (out .entry)) 0 (recordFrom (now (card .entry)) (k + m) l lost (now (stripe .entry)))) (now (out .entry)) ⌝ }
+{
+    let answer = decide(k, m, l, lost, stripe.len(), out.len());
+    if accepts(answer) {
+        put_record(card, k + m, l, lost, stripe, out);
+    }
+    answer
+}
+
+// The writer: the record of the stripe at the output's front.
+pub fn write(card: &[u8], l: usize, lost: u32, stripe: &[u8], out: &mut [u8]) -> RecordWritten
+    ensures { λ r. ⌜ writtenReport r ≡ recordWriteReport (now (card .entry)) l lost (length (now (stripe .entry))) (length (now (out .entry))) ⌝ }
+    ensures { λ _. ⌜ now (out .exit) ≡ recordWriteOutput (now (card .entry)) l lost (now (stripe .entry)) (now (out .entry)) ⌝ }
+{
+    match card::check(card) {
+        CardCheck::Bad(fault) => RecordWritten::Card(fault),
+        CardCheck::Good { k, m } => write_good(card, k, m, l, lost, stripe, out),
+    }
+}
