@@ -64,8 +64,8 @@ static void in_order(const char *call, const struct card *card, const uint32_t *
             stop(call, "an entry is no set of disks", list[e], 0);
         if (e == 0)
             continue;
-        uint64_t key = ((uint64_t)size_of(list[e]) << 32) + (list[e] & key_bits), last = ((uint64_t)size_of(list[e - 1]) << 32) + (list[e - 1] & key_bits);
-        if (key <= last)
+        int size = size_of(list[e]), last = size_of(list[e - 1]);
+        if (size < last || (size == last && (list[e] & key_bits) <= (list[e - 1] & key_bits)))
             stop(call, "an entry is not in order", list[e], list[e - 1]);
     }
 }
@@ -233,7 +233,8 @@ static void fuzz_equations(struct input *in)
         uint64_t answer = reference_equations(card.bytes, card.length, disk, wanted_slice, LISTED_SETS);
         size_t slice_len = take_slice_len(in, BRIDGECRUMB_NUMBER(answer) == 0 ? BRIDGECRUMB_VALUE(answer) : 3);
         forget_wanted(in);
-        same_answer("equations", engine_equations(&card, disk, slice_len), reference_equations(card.bytes, card.length, disk, wanted_slice, slice_len));
+        uint64_t wanted = reference_equations(card.bytes, card.length, disk, wanted_slice, slice_len);
+        same_answer("equations", engine_equations(&card, disk, slice_len), wanted);
         same_equations(&card);
         return;
     }

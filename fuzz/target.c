@@ -16,8 +16,10 @@ int LLVMFuzzerTestOneInput(const uint8_t *bytes, size_t count);
 
 int LLVMFuzzerTestOneInput(const uint8_t *bytes, size_t count)
 {
-    static void (*const calls[])(struct input *) = {fuzz_card_read, fuzz_card_write, fuzz_alike,        fuzz_encode,      fuzz_verdict,     fuzz_list,
-                                                    fuzz_equations, fuzz_rebuild,    fuzz_record_write, fuzz_record_read, fuzz_record_body, fuzz_damaged_record};
+    static void (*const calls[])(struct input *) = {
+        fuzz_card_read, fuzz_card_write, fuzz_alike,        fuzz_encode,      fuzz_verdict,     fuzz_list,
+        fuzz_equations, fuzz_rebuild,    fuzz_record_write, fuzz_record_read, fuzz_record_body, fuzz_damaged_record,
+    };
     static int opened;
     struct input in = input_of(bytes, count);
     if (!opened)
