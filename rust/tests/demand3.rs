@@ -138,10 +138,10 @@ fn random_cards(name: &str, cards: usize, most: usize, sets_of_card: usize) {
 
 #[test]
 fn middling_cards() {
-    random_cards("demand3, up to 8 + 8", 3000, 8, 30);
+    random_cards("demand3, up to 8 + 8", 15_000, 8, 30);
 }
 
 #[test]
 fn large_cards() {
-    random_cards("demand3, up to 16 + 16", 100, 16, 60);
+    random_cards("demand3, up to 16 + 16", 300, 16, 60);
 }

@@ -112,7 +112,7 @@ fn lists_of(check: &mut Check, card: &[u8], code: &Result<Code, Refusal>, disks:
 #[test]
 fn lists() {
     let mut check = Check::new("random, lists");
-    for _ in 0..20_000 {
+    for _ in 0..50_000 {
         let (card, code) = any_card(&mut check.chance, listed_card);
         lists_of(&mut check, &card, &code, 3);
     }
@@ -132,7 +132,7 @@ fn largest_lists() {
 #[test]
 fn verdicts() {
     let mut check = Check::new("random, verdicts");
-    for _ in 0..20_000 {
+    for _ in 0..100_000 {
         let (card, code) = any_card(&mut check.chance, random_card);
         let (n, m) = code.as_ref().map_or((32, 16), |code| (code.n(), code.m));
         for _ in 0..8 {
@@ -176,7 +176,7 @@ fn near(chance: &mut Chance, card: &[u8]) -> Vec<u8> {
 #[test]
 fn pairs() {
     let mut check = Check::new("random, pairs");
-    for _ in 0..10_000 {
+    for _ in 0..40_000 {
         let (first, _) = any_card(&mut check.chance, listed_card);
         let second = match check.chance.below(5) {
             0 => any_card(&mut check.chance, listed_card).0,

@@ -226,7 +226,7 @@ fn lose(chance: &mut Chance, file: &mut Vec<u8>, entries: usize) {
 #[test]
 fn damaged() {
     let mut check = Check::new("records, damaged");
-    for _ in 0..100_000 {
+    for _ in 0..200_000 {
         let chance = &mut check.chance;
         let largest = chance.pick(&[2, 4, 16]);
         let strip_len = chance.pick(&[1, 2, 3, 10, 17, 40]);
@@ -242,7 +242,7 @@ fn damaged() {
 #[test]
 fn any_bytes() {
     let mut check = Check::new("records, any bytes");
-    for _ in 0..100_000 {
+    for _ in 0..200_000 {
         let chance = &mut check.chance;
         let len = chance.below(200);
         let mut file = chance.bytes(len);
