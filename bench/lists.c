@@ -1,5 +1,6 @@
-/* The lister and the equation call beside a plain C program (peer.h): both lists are compared entry by entry,
- * both are timed on the same cards in this process, and the stack that the calls use is measured.
+/* The lister, the equation call and the verdict call beside a plain C program (peer.h): lists are compared
+ * entry by entry and verdicts set by set, both are timed on the same cards in this process, and the stack
+ * that the calls use is measured.
  */
 #include <pthread.h>
 #include <stdio.h>
@@ -13,6 +14,7 @@
 
 #define BEST_OF 40
 #define STACK_LIMIT (64 * 1024)
+#define SETS 4096
 
 /* ---- the cards */
 
@@ -129,6 +131,34 @@ static double compare_equations(const char *name, const uint8_t *card, int disk)
     return print_row(name, card, count, least);
 }
 
+/* the verdicts on SETS sets of m disks */
+static double compare_verdicts(const char *name, const uint8_t *card)
+{
+    static uint32_t sets[SETS], peers_say[SETS], engines_say[SETS];
+    size_t length = 2 + 2 * (size_t)card[1], fatal = 0;
+    int n = card[0] + card[1];
+    struct times least = {1e9, 1e9};
+    for (int i = 0; i < SETS; i++)
+        for (sets[i] = 0; __builtin_popcount(sets[i]) < card[1];)
+            sets[i] |= (uint32_t)1 << pseudo_random() % n;
+    for (int run = 0; run < BEST_OF; run++) {
+        double start = now_ms();
+        for (int i = 0; i < SETS; i++)
+            peers_say[i] = peer_verdict(card, sets[i]);
+        double middle = now_ms();
+        for (int i = 0; i < SETS; i++)
+            engines_say[i] = (uint32_t)bridgecrumb_verdict(card, length, sets[i]);
+        keep_least(&least, start, middle, now_ms());
+        fatal = 0;
+        for (int i = 0; i < SETS; i++) {
+            if (engines_say[i] != 256 * peers_say[i])
+                stop("the verdicts differ");
+            fatal += peers_say[i];
+        }
+    }
+    return print_row(name, card, fatal, least);
+}
+
 /* a refused call answers its number and writes nothing; a verdict agrees with the list */
 static void check_answers(const uint8_t *card)
 {
@@ -215,7 +245,7 @@ static double least_of(double a, double b)
 int main(void)
 {
     static uint8_t cards[7][34];
-    double lists = 1e9, equations = 1e9;
+    double lists = 1e9, equations = 1e9, verdicts = 1e9;
     dense(cards[0], 16, 16);
     dense(cards[1], 16, 16);
     dense(cards[2], 16, 16);
@@ -235,8 +265,14 @@ int main(void)
         equations = least_of(equations, compare_equations("dense, parity", cards[c], 31));
     }
     compare_equations("chain, data", cards[6], 0);
-    printf("best of %d runs each; every run's lists and vectors are equal\n", BEST_OF);
+    printf("%-14s %3s %3s %8s %10s %10s %8s\n", "4096 verdicts", "k", "m", "fatal", "peer ms", "engine ms", "ratio");
+    for (int c = 0; c < 7; c++) {
+        double ratio = compare_verdicts(c < 6 ? "dense" : "chain", cards[c]);
+        verdicts = least_of(verdicts, ratio);
+    }
+    printf("best of %d runs each; every run's lists, vectors and verdicts are equal\n", BEST_OF);
     printf("dense k = m = 16: the lister is at least %.2f times as fast as the peer, the equation call %.2f times\n", lists, equations);
+    printf("the verdict call is at least %.2f times as fast as the peer, which checks no card\n", verdicts);
     check_answers(cards[0]);
     size_t list = stack_of(call_list, cards[0]), told = stack_of(call_equations, cards[0]), verdict = stack_of(call_verdict, cards[0]);
     printf("stack: bridgecrumb_list %zu bytes, bridgecrumb_equations %zu bytes, bridgecrumb_verdict %zu bytes\n", list, told, verdict);

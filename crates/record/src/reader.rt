@@ -72,13 +72,14 @@ fn card_entry_ok(file: &[u8]) -> bool
     let e = contents::number_2(file, 8);
     let at = contents::number_4(file, 12);
     let len = contents::number_4(file, 16);
+    let bodies = 10 + 10 * e;
     if file[10] != 0 {
         return false;
     }
     if file[11] != 0 {
         return false;
     }
-    if at != 10 + 10 * e {
+    if at != bodies {
         return false;
     }
     at + len <= file.len()

@@ -24,6 +24,12 @@ number-4-requires c κs = omega (arith, forty (c .before .before))
 number-4-requires-2 : tie.Need-number-4-requires-2
 number-4-requires-2 c κs = omega (arith, forty (c .before .before .before))
 
+mul-bodies : tie.Need-mul-bodies
+mul-bodies c = search needs
+
+add-bodies : tie.Need-add-bodies
+add-bodies c = search needs
+
 shared-slice-read-if1 : tie.Need-shared-slice-read-if1
 shared-slice-read-if1 c = omega (arith, forty (c .before .before .before .before .before))
 
@@ -43,12 +49,6 @@ returns-2 : tie.Need-returns-2
 returns-2 c =
     let b = c .before .before in
     let n = read (b .before .before) in card-disk _ _ _ _ (n .0) (n .1) (n .2) (b .if1 .left) (c .if2 .taken)
-
-mul-if3 : tie.Need-mul-if3
-mul-if3 c = search needs
-
-add-if3 : tie.Need-add-if3
-add-if3 c = search needs
 
 returns-3 : tie.Need-returns-3
 returns-3 c =
@@ -70,12 +70,12 @@ card-entry-ok-spec =
     number-2-requires
     number-4-requires
     number-4-requires-2
+    mul-bodies
+    add-bodies
     shared-slice-read-if1
     returns
     shared-slice-read-if2
     returns-2
-    mul-if3
-    add-if3
     returns-3
     add-result
     returns-4)
