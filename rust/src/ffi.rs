@@ -83,9 +83,7 @@ pub fn card_read(card: &[u8], counts: &mut [usize; 2], columns: &mut [u16; 16]) 
 
 pub fn card_write(k: usize, m: usize, columns: &[u16], out: &mut [u8]) -> Result<usize, Error> {
     // SAFETY: each slice goes with its own length, and `out` is lent to nobody else
-    taken(unsafe {
-        bridgecrumb_card_write(k, m, columns.as_ptr(), columns.len(), out.as_mut_ptr(), out.len())
-    })
+    taken(unsafe { bridgecrumb_card_write(k, m, columns.as_ptr(), columns.len(), out.as_mut_ptr(), out.len()) })
 }
 
 pub fn alike(first: &[u8], second: &[u8]) -> Result<usize, Error> {
@@ -95,9 +93,7 @@ pub fn alike(first: &[u8], second: &[u8]) -> Result<usize, Error> {
 
 pub fn encode(card: &[u8], strip_len: usize, stripe: &mut [u8]) -> Result<usize, Error> {
     // SAFETY: each slice goes with its own length, whatever strip_len is, and `stripe` is lent to nobody else
-    taken(unsafe {
-        bridgecrumb_encode(card.as_ptr(), card.len(), strip_len, stripe.as_mut_ptr(), stripe.len())
-    })
+    taken(unsafe { bridgecrumb_encode(card.as_ptr(), card.len(), strip_len, stripe.as_mut_ptr(), stripe.len()) })
 }
 
 pub fn verdict(card: &[u8], set: u32) -> Result<usize, Error> {
@@ -107,9 +103,7 @@ pub fn verdict(card: &[u8], set: u32) -> Result<usize, Error> {
 
 pub fn list(card: &[u8], out: &mut [u32], vector: &mut [usize; 17]) -> Result<usize, Error> {
     // SAFETY: each slice goes with its own length; 17 counts are written, and the array has as many
-    taken(unsafe {
-        bridgecrumb_list(card.as_ptr(), card.len(), out.as_mut_ptr(), out.len(), vector.as_mut_ptr())
-    })
+    taken(unsafe { bridgecrumb_list(card.as_ptr(), card.len(), out.as_mut_ptr(), out.len(), vector.as_mut_ptr()) })
 }
 
 pub fn equations(card: &[u8], disk: usize, out: &mut [u32]) -> Result<usize, Error> {
@@ -119,9 +113,7 @@ pub fn equations(card: &[u8], disk: usize, out: &mut [u32]) -> Result<usize, Err
 
 pub fn rebuild(card: &[u8], strip_len: usize, lost: u32, stripe: &mut [u8]) -> Result<usize, Error> {
     // SAFETY: each slice goes with its own length, whatever strip_len is, and `stripe` is lent to nobody else
-    taken(unsafe {
-        bridgecrumb_rebuild(card.as_ptr(), card.len(), strip_len, lost, stripe.as_mut_ptr(), stripe.len())
-    })
+    taken(unsafe { bridgecrumb_rebuild(card.as_ptr(), card.len(), strip_len, lost, stripe.as_mut_ptr(), stripe.len()) })
 }
 
 pub fn record_write(card: &[u8], strip_len: usize, lost: u32, stripe: &[u8], out: &mut [u8]) -> Result<usize, Error> {

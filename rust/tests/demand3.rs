@@ -7,8 +7,9 @@ mod tools;
 
 use bridgecrumb::Error;
 use reference::{quick, Code};
+use std::time::Instant;
 use tools::cards::{every_card, random_card_of};
-use tools::chance::{seed, Chance};
+use tools::chance::Chance;
 
 /// What the engine lists for a card.
 struct Lists {
@@ -78,7 +79,7 @@ fn five_statements(chance: &mut Chance, card: &[u8], code: &Code, lists: &Lists,
         lists.some_disk_untold(set),
         rebuilder_says_11(chance, card, code, set),
     ];
-    assert_eq!(statements, [fatal; 5], "{card:?}, set {set:#x}, seed {}", seed());
+    assert_eq!(statements, [fatal; 5], "{card:?}, set {set:#x}");
     fatal
 }
 
@@ -103,7 +104,8 @@ fn any_set(chance: &mut Chance, code: &Code, lists: &Lists) -> u32 {
 
 #[test]
 fn small_cards() {
-    let mut chance = Chance::new("demand3, small cards");
+    let start = Instant::now();
+    let mut chance = Chance::new("demand3, up to 6 disks");
     let (mut sets, mut fatal) = (0, 0);
     for n in 2..=6 {
         for card in every_card(n) {
@@ -115,10 +117,12 @@ fn small_cards() {
             }
         }
     }
-    println!("demand3: every card of up to 6 disks, {sets} sets, {fatal} fatal");
+    let seconds = start.elapsed().as_secs_f64();
+    println!("demand3, up to 6 disks: every card, {sets} sets, {fatal} fatal, in {seconds:.1} s");
 }
 
-fn random_cards(name: &str, cards: usize, most: usize, sets_of_card: usize) {
+fn random_cards(name: &'static str, cards: usize, most: usize, sets_of_card: usize) {
+    let start = Instant::now();
     let mut chance = Chance::new(name);
     let (mut sets, mut fatal) = (0, 0);
     for _ in 0..cards {
@@ -133,15 +137,16 @@ fn random_cards(name: &str, cards: usize, most: usize, sets_of_card: usize) {
         }
     }
     assert!(fatal * 5 > sets && fatal * 5 < sets * 4, "{fatal} of {sets} sets fatal: the choice of sets is poor");
-    println!("{name}: {cards} cards, {sets} sets, {fatal} fatal");
+    let seconds = start.elapsed().as_secs_f64();
+    println!("{name}: {cards} cards, {sets} sets, {fatal} fatal, in {seconds:.1} s");
 }
 
 #[test]
 fn middling_cards() {
-    random_cards("demand3, up to 8 + 8", 3000, 8, 30);
+    random_cards("demand3, up to 8 + 8", 15_000, 8, 30);
 }
 
 #[test]
 fn large_cards() {
-    random_cards("demand3, up to 16 + 16", 100, 16, 60);
+    random_cards("demand3, up to 16 + 16", 300, 16, 60);
 }

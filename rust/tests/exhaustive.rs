@@ -5,7 +5,7 @@ mod tools;
 
 use reference::{Code, Refusal};
 use tools::cards::every_card;
-use tools::check::{Check, Vector};
+use tools::check::{vector_of, Check, Vector};
 
 /// Cards of up to this many disks for the calls on sets.
 const SET_DISKS: usize = 7;
@@ -110,6 +110,14 @@ fn every_loss(check: &mut Check, card: &[u8], code: &Result<Code, Refusal>, n: u
     }
 }
 
+fn every_length(check: &mut Check, card: &[u8], code: &Result<Code, Refusal>, strip_len: usize, longest: usize) {
+    for len in 0..=longest {
+        let stripe = check.chance.bytes(len);
+        check.encode(card, strip_len, &stripe);
+        check.rebuild(card, code, strip_len, 1, &stripe);
+    }
+}
+
 #[test]
 fn stripes() {
     let mut check = Check::new("exhaustive, stripes");
@@ -118,6 +126,7 @@ fn stripes() {
             let code = reference::code(&card);
             for strip_len in 1..=2 {
                 every_loss(&mut check, &card, &code, n, strip_len);
+                every_length(&mut check, &card, &code, strip_len, 3 * n);
             }
         }
     }
@@ -133,9 +142,4 @@ fn pairs() {
             check.alike((first, first_vector), (second, second_vector));
         }
     }
-}
-
-fn vector_of(card: &[u8]) -> Vector {
-    let code = reference::code(card)?;
-    Ok((code.k, code.m, reference::vector(&code, &reference::minimal_erasures(&code))))
 }

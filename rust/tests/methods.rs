@@ -15,7 +15,11 @@ fn sorted(mut sets: Vec<u32>) -> Vec<u32> {
 fn same_methods(code: &Code, chance: &mut Chance) {
     assert_eq!(sorted(literal::minimal_erasures(code)), sorted(quick::minimal_erasures(code)), "{code:?}");
     for disk in 0..code.n() {
-        assert_eq!(sorted(literal::equations(code, disk)), sorted(quick::equations(code, disk)), "{code:?}, disk {disk}");
+        assert_eq!(
+            sorted(literal::equations(code, disk)),
+            sorted(quick::equations(code, disk)),
+            "{code:?}, disk {disk}"
+        );
     }
     for set in 0..=code.disks() {
         let fatal = literal::fatal(code, set);

@@ -6,7 +6,7 @@ mod tools;
 use reference::{Code, Refusal};
 use tools::cards::{card_of, damaged_card, random_card, random_card_of, random_columns};
 use tools::chance::Chance;
-use tools::check::{Call, Check, Vector};
+use tools::check::{vector_of, Call, Check};
 
 /// A card, one in five damaged, and its code or its refusal.
 fn any_card(chance: &mut Chance, make: fn(&mut Chance) -> Vec<u8>) -> (Vec<u8>, Result<Code, Refusal>) {
@@ -64,8 +64,11 @@ fn written_cards() {
             columns.resize(len, 1);
         }
         let card_len = 2 + 2 * right_m;
-        let out_len =
-            if chance.one_in(4) { chance.pick(&[0, card_len - 1, card_len + 1, 34, 35, card_len + 256]) } else { card_len };
+        let out_len = if chance.one_in(4) {
+            chance.pick(&[0, card_len - 1, card_len + 1, 34, 35, card_len + 256])
+        } else {
+            card_len
+        };
         check.write_card(k, m, &columns, out_len);
     }
     check.every_refusal(&[Call::WriteCard]);
@@ -112,7 +115,7 @@ fn lists_of(check: &mut Check, card: &[u8], code: &Result<Code, Refusal>, disks:
 #[test]
 fn lists() {
     let mut check = Check::new("random, lists");
-    for _ in 0..20_000 {
+    for _ in 0..50_000 {
         let (card, code) = any_card(&mut check.chance, listed_card);
         lists_of(&mut check, &card, &code, 3);
     }
@@ -132,7 +135,7 @@ fn largest_lists() {
 #[test]
 fn verdicts() {
     let mut check = Check::new("random, verdicts");
-    for _ in 0..20_000 {
+    for _ in 0..100_000 {
         let (card, code) = any_card(&mut check.chance, random_card);
         let (n, m) = code.as_ref().map_or((32, 16), |code| (code.n(), code.m));
         for _ in 0..8 {
@@ -142,11 +145,6 @@ fn verdicts() {
         }
     }
     check.every_refusal(&[Call::Verdict]);
-}
-
-fn vector_of(card: &[u8]) -> Vector {
-    let code = reference::code(card)?;
-    Ok((code.k, code.m, reference::vector(&code, &reference::minimal_erasures(&code))))
 }
 
 /// A card that is often alike: data disks and columns in another order, or a column changed or put twice.
@@ -176,7 +174,7 @@ fn near(chance: &mut Chance, card: &[u8]) -> Vec<u8> {
 #[test]
 fn pairs() {
     let mut check = Check::new("random, pairs");
-    for _ in 0..10_000 {
+    for _ in 0..40_000 {
         let (first, _) = any_card(&mut check.chance, listed_card);
         let second = match check.chance.below(5) {
             0 => any_card(&mut check.chance, listed_card).0,

@@ -55,6 +55,23 @@ fn written() {
 }
 
 #[test]
+fn every_output_length() {
+    let mut check = Check::new("records, every output length");
+    for (k, m, strip_len) in [(1, 1, 1), (2, 3, 4), (16, 16, 1), (3, 1, 130)] {
+        let card = random_card_of(&mut check.chance, k, m);
+        let n = k + m;
+        for size in [0, 1, n] {
+            let lost = check.chance.set(n, size);
+            let stripe = check.chance.bytes(n * strip_len);
+            let record_len = 10 + 10 * (n + 1) + card.len() + (n - size) * strip_len;
+            for out_len in 0..record_len + 40 {
+                check.write_record(&card, strip_len, lost, &stripe, out_len);
+            }
+        }
+    }
+}
+
+#[test]
 fn longest() {
     let mut check = Check::new("records, longest");
     for (strip_len, k, m) in [(65536, 16, 16), (65535, 16, 16), (65536, 1, 1), (8193, 9, 7), (4096, 3, 2)] {
@@ -226,7 +243,7 @@ fn lose(chance: &mut Chance, file: &mut Vec<u8>, entries: usize) {
 #[test]
 fn damaged() {
     let mut check = Check::new("records, damaged");
-    for _ in 0..100_000 {
+    for _ in 0..200_000 {
         let chance = &mut check.chance;
         let largest = chance.pick(&[2, 4, 16]);
         let strip_len = chance.pick(&[1, 2, 3, 10, 17, 40]);
@@ -242,7 +259,7 @@ fn damaged() {
 #[test]
 fn any_bytes() {
     let mut check = Check::new("records, any bytes");
-    for _ in 0..100_000 {
+    for _ in 0..200_000 {
         let chance = &mut check.chance;
         let len = chance.below(200);
         let mut file = chance.bytes(len);

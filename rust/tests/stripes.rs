@@ -38,7 +38,7 @@ fn try_both(check: &mut Check, card: &[u8], code: &Result<Code, Refusal>, strip_
 #[test]
 fn small_strips() {
     let mut check = Check::new("stripes, random cards");
-    for _ in 0..12_000 {
+    for _ in 0..30_000 {
         let card = random_card(&mut check.chance);
         let code = reference::code(&card);
         let known = code.as_ref().unwrap();
@@ -67,11 +67,14 @@ fn long_strips() {
     }
 }
 
-/// A strip length: right two times in three, else wrong by a little or by far.
+/// A strip length: short and right two times in three, else wrong by a little or by far.
 fn any_strip_len(chance: &mut Chance) -> usize {
     match chance.below(9) {
         0 => chance.pick(&[0, 65537, 65538, 131072]),
-        1 | 2 => chance.far_number(),
+        1 | 2 => match chance.far_number() {
+            right @ 1..=65536 => right + 65536,
+            wrong => wrong,
+        },
         _ => chance.pick(&STRIP_LENS),
     }
 }
@@ -79,8 +82,8 @@ fn any_strip_len(chance: &mut Chance) -> usize {
 /// A stripe's length: right three times in four.
 fn any_stripe_len(chance: &mut Chance, n: usize, strip_len: usize) -> usize {
     let right = n.wrapping_mul(strip_len);
-    if strip_len > 1 << 17 {
-        // also what the product is in 16 bits; in 64 bits that is what it is where the length is near 2^62 or 2^63
+    if strip_len > 1 << 17 || strip_len > 1 << 16 && !chance.one_in(100) {
+        // also what the product is in 16 bits, which near 2^62 and 2^63 is what it is in 64
         return chance.pick(&[0, n, right % 65536]);
     }
     match chance.below(4) {

@@ -1,5 +1,4 @@
 pub mod Lengths
 pub mod Written
 pub mod Filling
-pub mod Vanishing
 pub mod Streamed

@@ -1,17 +1,16 @@
--- The strips of a set as streams: the places that `blocks::members_of` answers, what is written from them, and whether their XOR vanishes.
+-- The strips of a set as streams: the places that `blocks::members_of` answers, and what is written from them.
 -- Assumes nothing.
-use mathlib.Core.Path.{_≡_, _∙_, subst, sym}
+use mathlib.Core.Path.{_≡_, _∙_}
 use mathlib.Core.Logic.{_⊎_, inl, inr, _≢_}
 use mathlib.Core.List.{List}
 use Prim.Native.Nat.{ℕ, _+_, _-_, _*_, _^_, _≤_, _<_}
 use native.Mathlib.Omega.{arith}
-use lib.Dec.{T, eqb}
+use lib.Dec.{T}
 use lib.ListN.{length, getD}
 use Rattle.gf2.specs.Sets.{has, over}
 use Rattle.gf2.proofs.Tests.{below-or}
-use Rattle.flat.specs.Lists.{every}
 use Rattle.flat.specs.Strips.{byteOf}
-use Rattle.flat.specs.Repairs.{filled, vanishes}
+use Rattle.flat.specs.Repairs.{filled}
 use Rattle.blocks.specs.Totals.{total}
 use Rattle.blocks.proofs.Summed.{strip-within}
 use Rattle.blocks.proofs.Written.{Written}
@@ -44,7 +43,3 @@ module _ (n l set : ℕ) (s at : List ℕ) (count : ℕ) where
         let r = streamed-written s (d * l) l (λ t. total count (λ j. getD s (getD at j 0 + t) 0)) fits in
         e ∙ strip-filled n l set d s (streamed s (d * l) l (λ t. total count (λ j. getD s (getD at j 0 + t) 0))) z
         (record { long = r .long; before = r .before; new = λ q h k. r .new q h k ∙ same (λ p. getD s (p + (q - d * l)) 0); after = r .after })
-
-    pub streamed-vanishes : every l (λ t. eqb (total count (λ j. getD s (getD at j 0 + t) 0)) 0) ≡ vanishes n l s set
-    unfolding vanishes byteOf
-    streamed-vanishes = λ x. every l (λ t. eqb (same (λ p. getD s (p + t) 0) x) 0)

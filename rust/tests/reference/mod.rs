@@ -57,7 +57,8 @@ impl Code {
 fn word_held(k: usize, columns: &[u16], word: u32) -> u32 {
     let mut disks = word;
     for (j, &column) in columns.iter().enumerate() {
-        disks |= (word & u32::from(column)).count_ones() % 2 << (k + j);
+        let ones = (word & u32::from(column)).count_ones();
+        disks |= (ones % 2) << (k + j);
     }
     disks
 }

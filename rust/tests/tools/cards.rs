@@ -79,8 +79,8 @@ fn damage(chance: &mut Chance, card: &mut Vec<u8>) {
             let more = chance.pick(&[1, 2, 3, 256, 512]);
             card.extend(chance.bytes(more));
         }
-        2 if !card.is_empty() => card[0] = chance.pick(&[0, 17, 18, 32, 255, chance_byte(card)]),
-        3 if card.len() > 1 => card[1] = chance.pick(&[0, 17, 18, 32, 255, chance_byte(card)]),
+        2 if !card.is_empty() => card[0] = chance.pick(&[0, 1, 15, 16, 17, 18, 32, 255]),
+        3 if card.len() > 1 => card[1] = chance.pick(&[0, 1, 15, 16, 17, 18, 32, 255]),
         4 if card.len() > 3 => {
             let at = 2 + 2 * chance.below(card.len() / 2 - 1);
             card[at..at + 2].fill(0);
@@ -102,9 +102,4 @@ fn damage(chance: &mut Chance, card: &mut Vec<u8>) {
             *card = chance.bytes(len);
         }
     }
-}
-
-/// A byte of the card itself, for a number that fits nothing.
-fn chance_byte(card: &[u8]) -> u8 {
-    card[card.len() / 2]
 }

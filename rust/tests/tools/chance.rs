@@ -1,25 +1,27 @@
 //! Numbers by chance, the same in every run unless BRIDGECRUMB_SEED names another seed.
 
 use std::env;
+use std::thread::panicking;
 
 /// The seed of a run.
-pub fn seed() -> u64 {
+fn seed() -> u64 {
     match env::var("BRIDGECRUMB_SEED") {
         Ok(text) => text.parse().expect("BRIDGECRUMB_SEED is a number"),
         Err(_) => 20_240_607,
     }
 }
 
-/// A generator (splitmix64).
+/// A generator (splitmix64). Where the test that has it fails, it prints the seed.
 pub struct Chance {
+    name: &'static str,
     state: u64,
 }
 
 impl Chance {
     /// A generator of its own for each name, so that tests don't depend on each other.
-    pub fn new(name: &str) -> Chance {
+    pub fn new(name: &'static str) -> Chance {
         let state = name.bytes().fold(seed(), |sum, byte| sum.wrapping_mul(31).wrapping_add(u64::from(byte)));
-        Chance { state }
+        Chance { name, state }
     }
 
     pub fn number(&mut self) -> u64 {
@@ -78,6 +80,14 @@ impl Chance {
             1 => power.wrapping_sub(1 + self.below(3)),
             2 => power.wrapping_add(1 + self.below(40)),
             _ => self.number() as usize,
+        }
+    }
+}
+
+impl Drop for Chance {
+    fn drop(&mut self) {
+        if panicking() {
+            eprintln!("{} failed with the seed {}: BRIDGECRUMB_SEED names the seed of a run", self.name, seed());
         }
     }
 }

@@ -1,6 +1,6 @@
 //! Each call beside the reference: answers, refusals, and every lent byte.
 
-use super::chance::{seed, Chance};
+use super::chance::Chance;
 use super::lent::lend;
 use crate::reference::{self, Code, Refusal};
 use bridgecrumb::{Card, Error, Listing};
@@ -53,9 +53,9 @@ const REFUSALS: [&[usize]; 11] = [
     &[1, 2, 3, 4, 5, 6, 9, 13, 14, 15, 16],
 ];
 
-/// One test's chance and counts. In the end it prints how many inputs it tried; where the test fails, the seed.
+/// One test's chance and counts. In the end it prints how many inputs it tried.
 pub struct Check {
-    pub name: &'static str,
+    name: &'static str,
     pub chance: Chance,
     tried: [[u64; 17]; 11],
     start: Instant,
@@ -114,7 +114,7 @@ impl Check {
         self.same(Call::WriteCard, answer, expected.map(|_| ()), input);
     }
 
-    /// Two cards alike, their vectors given; `None` where the card is refused.
+    /// Two cards alike; their vectors are the reference's.
     pub fn alike(&mut self, first: (&[u8], &Vector), second: (&[u8], &Vector)) {
         let expected = match (first.1, second.1) {
             (Err(refused), _) | (_, Err(refused)) => Err(*refused),
@@ -178,6 +178,12 @@ impl Check {
 /// k, m and the vector of a card, or its refusal.
 pub type Vector = Result<(usize, usize, [usize; 17]), Refusal>;
 
+/// The card's `Vector`, by the reference.
+pub fn vector_of(card: &[u8]) -> Vector {
+    let code = reference::code(card)?;
+    Ok((code.k, code.m, reference::vector(&code, &reference::minimal_erasures(&code))))
+}
+
 /// Fails at the first place where two buffers differ.
 pub fn same_bytes<T: PartialEq + Debug>(after: &[T], expected: &[T], input: impl FnOnce() -> String) {
     if after != expected {
@@ -190,7 +196,6 @@ pub fn same_bytes<T: PartialEq + Debug>(after: &[T], expected: &[T], input: impl
 impl Drop for Check {
     fn drop(&mut self) {
         if panicking() {
-            eprintln!("{} failed with the seed {}: set BRIDGECRUMB_SEED to it to run it again", self.name, seed());
             return;
         }
         let seconds = self.start.elapsed().as_secs_f64();

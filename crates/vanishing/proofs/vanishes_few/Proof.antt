@@ -1,12 +1,12 @@
--- `strips::vanishes_few` meets its contract, whichever way is taken.
+-- `vanishing::vanishes_few` meets its contract, whichever way is taken.
 -- Assumes nothing.
 use mathlib.Core.Path.{_∙_}
 use native.Mathlib.Omega.{arith}
 use Rattle.blocks.proofs.Placed.{place-inside}
-use Rattle.strips.proofs.Streamed.{streamed-vanishes}
+use Rattle.vanishing.proofs.Vanishing.{streamed-vanishes}
 use borrow.Author.Needs.{needs}
-use Rattle.strips.proofs.vanishes_few.Statement.{statement}
-use Rattle.strips.proofs.vanishes_few.Tie as tie
+use Rattle.vanishing.proofs.vanishes_few.Statement.{statement}
+use Rattle.vanishing.proofs.vanishes_few.Tie as tie
 
 members-of-requires : tie.Need-members-of-requires
 members-of-requires c κs = search needs

@@ -1,13 +1,13 @@
--- `strips::vanishes_short` meets its contract: the bytes below o are 0.
+-- `vanishing::vanishes_short` meets its contract: the bytes below o are 0.
 -- Assumes nothing.
 use mathlib.Core.Path.{sym, _∙_}
 use borrow.Author.Tests.{not-true, not-false}
 use Prim.Native.Nat.{_-_, _≤_}
 use native.Mathlib.Omega.{arith}
-use Rattle.strips.proofs.Vanishing.{Vanished, vanished-none, vanished-more, vanished-not, vanished-last, vanished-all}
+use Rattle.vanishing.proofs.Vanishing.{Vanished, vanished-none, vanished-more, vanished-not, vanished-last, vanished-all}
 use borrow.Author.Needs.{needs}
-use Rattle.strips.proofs.vanishes_short.Statement.{statement}
-use Rattle.strips.proofs.vanishes_short.Tie as tie
+use Rattle.vanishing.proofs.vanishes_short.Statement.{statement}
+use Rattle.vanishing.proofs.vanishes_short.Tie as tie
 
 abbrev Inv-loop : tie.InvT-loop
 Inv-loop s l n set o₀ o = (o ≤ l) × Vanished n l set s o

@@ -1,4 +1,4 @@
--- Where the XOR of the strips of a set vanishes: block by block, byte by byte, and row by row.
+-- Where the XOR of the strips of a set vanishes: block by block, byte by byte, row by row, and as streams.
 -- Assumes nothing.
 use mathlib.Core.Path.{_≡_, refl, sym, ap, ap₂, _∙_, subst}
 use mathlib.Core.Bool.{Bool, true, false, _&&_}
@@ -113,3 +113,10 @@ module _ (n l : ℕ) (s rows : List ℕ) where
   pub tested-all : (j : ℕ) → Tested j → length rows ≤ j → true ≡ allVanish n l s rows
   unfolding allVanish
   tested-all j r h = let e : j ≡ length rows = omega (arith, r .within) in sym (r .rest ∙ ap (λ (i : ℕ). allVanish n l s (drop i rows)) e ∙ rw drop-length)
+
+-- ---- as streams, from the places that `blocks::members_of` answers
+
+pub streamed-vanishes : (n l set : ℕ) (s at : List ℕ) (count : ℕ) → ((f : ℕ → ℕ) → total count (λ j. f (getD at j 0)) ≡ over n set (λ i. f (i * l)))
+    → every l (λ t. eqb (total count (λ j. getD s (getD at j 0 + t) 0)) 0) ≡ vanishes n l s set
+unfolding vanishes byteOf
+streamed-vanishes n l set s at count same = λ x. every l (λ t. eqb (same (λ p. getD s (p + t) 0) x) 0)

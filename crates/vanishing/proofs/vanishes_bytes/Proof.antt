@@ -1,10 +1,10 @@
--- `strips::vanishes_bytes` meets its contract: the bytes below t are 0.
+-- `vanishing::vanishes_bytes` meets its contract: the bytes below t are 0.
 -- Assumes nothing.
 use Prim.Native.Nat.{_-_, _≤_}
-use Rattle.strips.proofs.Vanishing.{Vanished, vanished-none, vanished-byte, vanished-other, vanished-all}
+use Rattle.vanishing.proofs.Vanishing.{Vanished, vanished-none, vanished-byte, vanished-other, vanished-all}
 use borrow.Author.Needs.{needs}
-use Rattle.strips.proofs.vanishes_bytes.Statement.{statement}
-use Rattle.strips.proofs.vanishes_bytes.Tie as tie
+use Rattle.vanishing.proofs.vanishes_bytes.Statement.{statement}
+use Rattle.vanishing.proofs.vanishes_bytes.Tie as tie
 
 abbrev Inv-loop : tie.InvT-loop
 Inv-loop s l n set t₀ t = (t ≤ l) × Vanished n l set s t

@@ -1,4 +1,4 @@
--- `strips::all_vanish` meets its contract: the rows before j vanish.
+-- `vanishing::all_vanish` meets its contract: the rows before j vanish.
 -- Assumes nothing.
 use mathlib.Core.Path.{_≡_, sym, ap, _∙_}
 use Prim.Native.Nat.{_-_, _≤_}
@@ -7,10 +7,10 @@ use borrow.Author.Tests.{not-true, not-false}
 use lib.ListN.{length, take}
 use lib.Seq.{getD-take, length-take-le}
 use Rattle.flat.specs.Repairs.{vanishes}
-use Rattle.strips.proofs.Vanishing.{Tested, tested-none, tested-more, tested-not, tested-all}
+use Rattle.vanishing.proofs.Vanishing.{Tested, tested-none, tested-more, tested-not, tested-all}
 use borrow.Author.Needs.{needs}
-use Rattle.strips.proofs.all_vanish.Statement.{statement}
-use Rattle.strips.proofs.all_vanish.Tie as tie
+use Rattle.vanishing.proofs.all_vanish.Statement.{statement}
+use Rattle.vanishing.proofs.all_vanish.Tie as tie
 
 abbrev Inv-loop : tie.InvT-loop
 Inv-loop s l n count sets j₀ j = (count ≤ 16) × (j ≤ count) × (length (take count sets) ≡ count) × Tested n l s (take count sets) j

@@ -1,14 +1,14 @@
--- `strips::vanishes_long` meets its contract: the bytes below o are 0.
+-- `vanishing::vanishes_long` meets its contract: the bytes below o are 0.
 -- Assumes nothing.
 use mathlib.Core.Path.{_≡_, sym, _∙_}
 use borrow.Author.Tests.{not-true, not-false}
 use Prim.Native.Nat.{ℕ, _+_, _-_, _*_, _≤_}
 use native.Mathlib.Omega.{arith}
 use Rattle.blocks.proofs.Placed.{place-inside}
-use Rattle.strips.proofs.Vanishing.{Vanished, vanished-none, vanished-more, vanished-not, vanished-last, vanished-all, block-at}
+use Rattle.vanishing.proofs.Vanishing.{Vanished, vanished-none, vanished-more, vanished-not, vanished-last, vanished-all, block-at}
 use borrow.Author.Needs.{needs}
-use Rattle.strips.proofs.vanishes_long.Statement.{statement}
-use Rattle.strips.proofs.vanishes_long.Tie as tie
+use Rattle.vanishing.proofs.vanishes_long.Statement.{statement}
+use Rattle.vanishing.proofs.vanishes_long.Tie as tie
 
 abbrev Inv-loop : tie.InvT-loop
 Inv-loop s l n set at count o₀ o = (o ≤ l) × Vanished n l set s o
