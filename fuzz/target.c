@@ -3,8 +3,9 @@
  * compiled with -fsanitize=fuzzer,address,undefined. A fault in the engine that no branch of theirs leads to is found by chance only.
  *
  * An input is a call: a byte that selects it, a byte that says at which end the lent buffers meet their closed pages, and the
- * arguments (input.h). The engine's answer and every lent byte are compared with the reference's. Brute force is bounded to small
- * codes; in larger ones the answer is held to what must be so (lists.h, stripes.h).
+ * arguments (input.h); some ask for what takes too long, and make no call. The engine's answer and every lent byte are compared with the
+ * reference's. Brute force is bounded to small codes; in larger ones the answer is held to what must be so, also by other calls of
+ * the engine (lists.h, stripes.h).
  */
 #define _DEFAULT_SOURCE
 #include "planted.h"
