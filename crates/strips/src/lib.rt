@@ -1,7 +1,8 @@
 // Strips computed from other strips: those of some disks filled with the XOR of the strips of a set each.
 //
 // A stripe has the strips of all disks, l bytes each. Strips go in blocks of 128 bytes, shorter ones in
-// blocks of 16, and those below 16 byte by byte; the last block lies over the end of the one before it.
+// blocks of 16, and those below 16 byte by byte; the last block lies over the end of the one before it. It
+// assumes at most 32 disks, and that no strip that is read is a target's.
 ghost use mathlib.Core.Path.{_≡_};
 ghost use mathlib.Core.Bool.{_&&_};
 ghost use mathlib.Core.Logic.{_≢_};

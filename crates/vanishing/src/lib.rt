@@ -2,7 +2,7 @@
 //
 // A stripe has the strips of all disks, l bytes each. Strips go in blocks of 128 bytes, shorter ones in
 // blocks of 16, and those below 16 byte by byte; the last block lies over the end of the one before it. It
-// assumes strips of at most 65,536 bytes, and at most 32 disks, whose strips the slice has.
+// assumes strips of at most 65,536 bytes, at most 32 disks, whose strips the slice has, and at most 16 sets.
 ghost use mathlib.Core.Path.{_≡_};
 ghost use Prim.Native.Nat.{_*_, _≤_};
 ghost use lib.ListN.{length, take};
