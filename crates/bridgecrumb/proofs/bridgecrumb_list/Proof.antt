@@ -12,7 +12,7 @@ use Rattle.card.specs.Reports.{faultReport}
 use Rattle.card.proofs.Laws.{unless-fault}
 use Rattle.erasures.specs.Reports.{listedReport}
 use Rattle.codes.specs.Coded.{value, coded}
-use Rattle.bridgecrumb.proofs.Bounds.{erasures-value}
+use Rattle.bounds.proofs.Values.{erasures-value}
 use Rattle.bridgecrumb.proofs.bridgecrumb_list.Statement.{statement}
 use Rattle.bridgecrumb.proofs.bridgecrumb_list.Tie as tie
 

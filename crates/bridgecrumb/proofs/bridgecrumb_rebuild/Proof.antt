@@ -5,7 +5,7 @@ use borrow.Author.Needs.{needs}
 use denote.Ref.{now}
 use Rattle.flat.specs.Faults.{Report}
 use Rattle.codes.specs.Coded.{value, coded}
-use Rattle.bridgecrumb.proofs.Bounds.{rebuild-value}
+use Rattle.bounds.proofs.Values.{rebuild-value}
 use Rattle.bridgecrumb.proofs.bridgecrumb_rebuild.Statement.{statement}
 use Rattle.bridgecrumb.proofs.bridgecrumb_rebuild.Tie as tie
 

@@ -5,7 +5,7 @@ use borrow.Author.Needs.{needs}
 use denote.Ref.{now}
 use Rattle.flat.specs.Faults.{Report}
 use Rattle.codes.specs.Coded.{value, coded}
-use Rattle.bridgecrumb.proofs.Bounds.{alike-value}
+use Rattle.bounds.proofs.Values.{alike-value}
 use Rattle.bridgecrumb.proofs.cards.bridgecrumb_alike.Statement.{statement}
 use Rattle.bridgecrumb.proofs.cards.bridgecrumb_alike.Tie as tie
 

@@ -10,7 +10,7 @@ use Rattle.flat.proofs.Reports.{unless-accepted}
 use Rattle.card.specs.Reports.{faultReport, checkReport}
 use Rattle.card.proofs.Laws.{unless-fault}
 use Rattle.codes.specs.Coded.{value, coded, codedFault}
-use Rattle.bridgecrumb.proofs.Bounds.{card-value}
+use Rattle.bounds.proofs.Values.{card-value}
 use Rattle.bridgecrumb.proofs.cards.bridgecrumb_card_read.Statement.{statement}
 use Rattle.bridgecrumb.proofs.cards.bridgecrumb_card_read.Tie as tie
 

@@ -7,7 +7,7 @@ use lib.ListN.{length}
 use Rattle.flat.specs.Cards.{code}
 use Rattle.flat.specs.Faults.{Report}
 use Rattle.codes.specs.Coded.{value, coded}
-use Rattle.bridgecrumb.proofs.Bounds.{card-write-value}
+use Rattle.bounds.proofs.Values.{card-write-value}
 use Rattle.bridgecrumb.proofs.cards.bridgecrumb_card_write.Statement.{statement}
 use Rattle.bridgecrumb.proofs.cards.bridgecrumb_card_write.Tie as tie
 

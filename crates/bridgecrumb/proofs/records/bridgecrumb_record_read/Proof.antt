@@ -10,7 +10,7 @@ use Rattle.flat.proofs.Reports.{unless-accepted}
 use Rattle.record_reader.specs.Reports.{recordFaultReport, checkReport}
 use Rattle.record_reader.proofs.Callers.{unless-bad}
 use Rattle.codes.specs.Coded.{value, coded, codedFault}
-use Rattle.bridgecrumb.proofs.RecordBounds.{record-value}
+use Rattle.bounds.proofs.RecordValues.{record-value}
 use Rattle.bridgecrumb.proofs.records.bridgecrumb_record_read.Statement.{statement}
 use Rattle.bridgecrumb.proofs.records.bridgecrumb_record_read.Tie as tie
 

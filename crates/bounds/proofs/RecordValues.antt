@@ -16,7 +16,7 @@ use Rattle.flat.specs.Records.{recordLength, lengthIn, bodyIn, markOk, entriesO
 use Rattle.flat.specs.Faults.{Report, accepted, refused, withRecord, recordWriteReport, recordReport, bodyReport}
 use Rattle.flat.proofs.Entries.{length-in, body-place}
 use Rattle.codes.specs.Coded.{value}
-use Rattle.bridgecrumb.proofs.Bounds.{pick, with-value}
+use Rattle.bounds.proofs.Values.{pick, with-value}
 
 -- a record is shorter than four gigabytes
 length-small : (C : Code) (L S : ℕ) → C .k ≤ 16 → C .m ≤ 16 → L ≤ 65536 → recordLength C L S < 4294967296
