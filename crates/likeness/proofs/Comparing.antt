@@ -10,7 +10,6 @@ use borrow.Author.Tests.{eq-eqb, ne-eqb}
 use lib.Dec.{eqb}
 use lib.ListN.{length, getD, drop, replicate, drop-of-length-le}
 use lib.Seq.{drop-cons}
-use Rattle.gf2.proofs.Tests.{T-true, T-ext, and-in, and-out}
 use Rattle.flat.specs.Lists.{same, padded}
 
 -- the first i places agree: what is left decides
