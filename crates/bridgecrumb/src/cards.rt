@@ -48,5 +48,5 @@ pub extern "C" fn bridgecrumb_card_write(k: usize, m: usize, columns: &[u16], ou
 pub extern "C" fn bridgecrumb_alike(first: &[u8], second: &[u8]) -> u64
     ensures { λ r. ⌜ r ≡ coded (alikeReport (now (first .entry)) (now (second .entry))) ⌝ }
 {
-    likeness_code(erasures::alike(first, second))
+    likeness_code(likeness::alike(first, second))
 }

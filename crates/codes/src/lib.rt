@@ -6,7 +6,8 @@
 ghost use mathlib.Core.Path.{_≡_};
 ghost use Prim.Native.Nat.{_+_, _*_, _<_};
 ghost use Rattle.card.specs.Reports.{faultReport, writtenReport};
-ghost use Rattle.erasures.specs.Reports.{verdictReport, alikeReport};
+ghost use Rattle.erasures.specs.Reports.{verdictReport};
+ghost use Rattle.likeness.specs.Reports.{alikeReport};
 ghost use Rattle.equations.specs.Reports.{toldReport};
 ghost use Rattle.encoder.specs.Reports.{encodedReport};
 ghost use Rattle.rebuilder.specs.Reports.{rebuiltReport};
@@ -15,8 +16,8 @@ use card::CardFault;
 use card::CardWritten;
 use encoder::Encoded;
 use equations::Told;
-use erasures::Likeness;
 use erasures::SetVerdict;
+use likeness::Likeness;
 use rebuilder::Rebuilt;
 
 mod records;

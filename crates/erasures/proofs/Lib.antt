@@ -1,5 +1,4 @@
 pub mod Laws
 pub mod Enumerated
 pub mod Answered
-pub mod Comparing
 pub mod Theorems

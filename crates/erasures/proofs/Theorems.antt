@@ -10,10 +10,8 @@ use Rattle.erasures.specs.declared.SetVerdict.{SetVerdict}
 use Rattle.erasures.specs.declared.SetVerdict.the-variants as verdict
 use Rattle.erasures.specs.declared.Listed.{Listed}
 use Rattle.erasures.specs.declared.Listed.the-variants as listed
-use Rattle.erasures.specs.declared.compare.Likeness.{Likeness}
-use Rattle.erasures.specs.declared.compare.Likeness.the-variants as likeness
-use Rattle.erasures.specs.Reports.{verdictReport, listedReport, alikeReport}
-use Rattle.erasures.specs.Theorems.{VerdictInjective, ListedInjective, AlikeInjective}
+use Rattle.erasures.specs.Reports.{verdictReport, listedReport}
+use Rattle.erasures.specs.Theorems.{VerdictInjective, ListedInjective}
 
 abbrev verdictFrom : Report → SetVerdict
 verdictFrom r =
@@ -35,19 +33,8 @@ listed-back (listed.Count n) = refl
 listed-back (listed.Card f) = carried-back f listed.Card _
 listed-back (listed.Short n) = refl
 
-abbrev likenessFrom : Report → Likeness
-likenessFrom r = carried r likeness.Card (if eqb (getD (r .values) 0 0) 1 then likeness.Alike else likeness.Different)
-
-likeness-back : (a : Likeness) → likenessFrom (alikeReport a) ≡ a
-likeness-back likeness.Alike = refl
-likeness-back likeness.Different = refl
-likeness-back (likeness.Card f) = carried-back f likeness.Card _
-
 pub verdict-injective : VerdictInjective
 verdict-injective a b e = sym (verdict-back a) ∙ ap verdictFrom e ∙ verdict-back b
 
 pub listed-injective : ListedInjective
 listed-injective a b e = sym (listed-back a) ∙ ap listedFrom e ∙ listed-back b
-
-pub alike-injective : AlikeInjective
-alike-injective a b e = sym (likeness-back a) ∙ ap likenessFrom e ∙ likeness-back b

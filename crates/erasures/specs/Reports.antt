@@ -7,8 +7,6 @@ use Rattle.erasures.specs.declared.SetVerdict.{SetVerdict}
 use Rattle.erasures.specs.declared.SetVerdict.the-variants as verdict
 use Rattle.erasures.specs.declared.Listed.{Listed}
 use Rattle.erasures.specs.declared.Listed.the-variants as listed
-use Rattle.erasures.specs.declared.compare.Likeness.{Likeness}
-use Rattle.erasures.specs.declared.compare.Likeness.the-variants as likeness
 
 -- the verdict call
 abbrev pub verdictReport : SetVerdict → Report
@@ -22,9 +20,3 @@ abbrev pub listedReport : Listed → Report
 listedReport (listed.Count n) = accepted (n ∷ [])
 listedReport (listed.Card f) = faultReport f
 listedReport (listed.Short n) = refused 10 (n ∷ [])
-
--- two cards alike
-abbrev pub alikeReport : Likeness → Report
-alikeReport likeness.Alike = accepted (1 ∷ [])
-alikeReport likeness.Different = accepted (0 ∷ [])
-alikeReport (likeness.Card f) = faultReport f

@@ -4,14 +4,10 @@
 use mathlib.Core.Path.{_≡_}
 use Rattle.erasures.specs.declared.SetVerdict.{SetVerdict}
 use Rattle.erasures.specs.declared.Listed.{Listed}
-use Rattle.erasures.specs.declared.compare.Likeness.{Likeness}
-use Rattle.erasures.specs.Reports.{verdictReport, listedReport, alikeReport}
+use Rattle.erasures.specs.Reports.{verdictReport, listedReport}
 
 abbrev pub VerdictInjective : Type 0
 VerdictInjective = (a b : SetVerdict) → verdictReport a ≡ verdictReport b → a ≡ b
 
 abbrev pub ListedInjective : Type 0
 ListedInjective = (a b : Listed) → listedReport a ≡ listedReport b → a ≡ b
-
-abbrev pub AlikeInjective : Type 0
-AlikeInjective = (a b : Likeness) → alikeReport a ≡ alikeReport b → a ≡ b

@@ -1,8 +1,8 @@
-// Which losses of disks are fatal: the verdict on one set, the list of all minimal erasures with its
-// vector, and whether two cards are alike.
+// Which losses of disks are fatal: the verdict on one set, and the list of all minimal erasures with its
+// vector.
 //
-// Every byte string, set and slice is a legal argument. What is answered for which input is said in
-// flat/specs/Faults.antt.
+// For the verdict and the list every byte string, set and slice is a legal argument. What is answered for
+// which input is said in flat/specs/Faults.antt.
 ghost use mathlib.Core.Path.{_≡_};
 ghost use mathlib.Core.List.{[]};
 ghost use Prim.Native.Nat.{_+_, _*_, _≤_};
@@ -14,11 +14,6 @@ ghost use Rattle.flat.specs.Faults.{unlessRefused, listReport, listSlice, erasu
 ghost use Rattle.erasures.specs.Reports.{verdictReport, listedReport};
 use card::CardCheck;
 use card::CardFault;
-
-mod compare;
-
-pub use compare::Likeness;
-pub use compare::alike;
 
 // The verdict call's answer: fatal or not, the card's fault, or a set with a disk that the code lacks.
 pub enum SetVerdict {
@@ -121,7 +116,7 @@ pub fn list(card: &[u8], out: &mut [u32]) -> Listing
 }
 
 // The vector of the columns of an accepted card, without the list.
-pub(crate) fn count_columns(columns: &[u8], k: usize, m: usize) -> [usize; 17]
+pub fn count_columns(columns: &[u8], k: usize, m: usize) -> [usize; 17]
     requires { ⌜ (1 ≤ k) × (k ≤ 16) × (m ≤ 16) × (2 * m ≤ length (now columns)) ⌝ }
     ensures { λ r. ⌜ r ≡ padded 17 (vector (code k m (columnsIn m (now (columns .entry))))) ⌝ }
 {

@@ -2,8 +2,8 @@
 use mathlib.Core.Path.{sym, ap, _∙_, subst}
 use Prim.Native.Nat.{_<_}
 use borrow.Author.Needs.{needs}
-use Rattle.erasures.specs.declared.compare.Likeness.{Likeness}
-use Rattle.erasures.specs.Reports.{alikeReport}
+use Rattle.likeness.specs.declared.Likeness.{Likeness}
+use Rattle.likeness.specs.Reports.{alikeReport}
 use Rattle.codes.specs.Coded.{value, coded}
 use Rattle.codes.proofs.likeness_code.Statement.{statement}
 use Rattle.codes.proofs.likeness_code.Tie as tie

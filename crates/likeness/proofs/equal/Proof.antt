@@ -1,14 +1,14 @@
--- `erasures::compare::equal` meets its contract: the places gone through agree, so what is left decides.
+-- `likeness::equal` meets its contract: the places gone through agree, so what is left decides.
 -- Assumes nothing.
 use mathlib.Core.Path.{_≡_, refl, sym, _∙_}
 use Prim.Native.Nat.{_-_, _≤_}
 use native.Mathlib.Omega.{arith}
 use lib.ListN.{length, drop}
 use Rattle.flat.specs.Lists.{same}
-use Rattle.erasures.proofs.Comparing.{same-step, same-differ, same-end}
+use Rattle.likeness.proofs.Comparing.{same-step, same-differ, same-end}
 use borrow.Author.Needs.{needs}
-use Rattle.erasures.proofs.compare.equal.Statement.{statement}
-use Rattle.erasures.proofs.compare.equal.Tie as tie
+use Rattle.likeness.proofs.equal.Statement.{statement}
+use Rattle.likeness.proofs.equal.Tie as tie
 
 abbrev Inv-loop : tie.InvT-loop
 Inv-loop a b i₀ i =

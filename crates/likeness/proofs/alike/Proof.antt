@@ -1,4 +1,4 @@
--- `erasures::compare::alike` meets its contract. Assumes nothing.
+-- `likeness::alike` meets its contract. Assumes nothing.
 use mathlib.Core.Path.{_≡_, refl, sym, ap, ap₂, _∙_}
 use mathlib.Core.Bool.{Bool, true, false}
 use mathlib.Core.List.{List}
@@ -14,10 +14,10 @@ use Rattle.flat.specs.Faults.{yesNo}
 use Rattle.card.specs.Reports.{checkReport}
 use Rattle.card.proofs.Laws.{rest}
 use Rattle.card.proofs.Callers.{GoodCard, good}
-use Rattle.erasures.proofs.Answered.{alike-first, alike-second, alike-both, data-differs, parity-differs, vectors-decide}
+use Rattle.likeness.proofs.Answered.{alike-first, alike-second, alike-both, data-differs, parity-differs, vectors-decide}
 use borrow.Author.Needs.{needs}
-use Rattle.erasures.proofs.compare.alike.Statement.{statement}
-use Rattle.erasures.proofs.compare.alike.Tie as tie
+use Rattle.likeness.proofs.alike.Statement.{statement}
+use Rattle.likeness.proofs.alike.Tie as tie
 
 check-requires : tie.Need-check-requires
 check-requires c κs = search needs

@@ -1,9 +1,12 @@
-// Two cards alike: the same counts of disks and the same vectors of minimal erasures.
+// Whether two cards are alike: the same counts of disks and the same vectors of minimal erasures.
+//
+// Every two byte strings are legal arguments. What is answered for which input is said in
+// flat/specs/Faults.antt.
 ghost use mathlib.Core.Path.{_≡_};
 ghost use lib.ListN.{length};
 ghost use Rattle.flat.specs.Lists.{same};
 ghost use Rattle.flat.specs.Faults.{alikeReport as alikeOf};
-ghost use Rattle.erasures.specs.Reports.{alikeReport};
+ghost use Rattle.likeness.specs.Reports.{alikeReport};
 use card::CardCheck;
 use card::CardFault;
 
@@ -41,8 +44,8 @@ pub fn alike(first: &[u8], second: &[u8]) -> Likeness
                 if m != parity {
                     return Likeness::Different;
                 }
-                let a = crate::count_columns(&first[2..], k, m);
-                let b = crate::count_columns(&second[2..], k, m);
+                let a = erasures::count_columns(&first[2..], k, m);
+                let b = erasures::count_columns(&second[2..], k, m);
                 if equal(a, b) {
                     return Likeness::Alike;
                 }

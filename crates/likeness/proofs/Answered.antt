@@ -1,0 +1,59 @@
+-- The answer on two cards, by what the check found.
+-- Assumes nothing.
+use mathlib.Core.Path.{_≡_, sym, ap, _∙_}
+use mathlib.Core.Bool.{Bool, false}
+use mathlib.Core.List.{List, [], _∷_}
+use Prim.Native.Nat.{ℕ}
+use borrow.Author.Tests.{eq-eqb, ne-eqb}
+use lib.ListN.{drop}
+use Rattle.flat.specs.Lists.{padded, same}
+use Rattle.flat.specs.Cards.{Code, code, columnsIn}
+use Rattle.flat.specs.Erasures.{vector}
+use Rattle.flat.specs.Alike.{alike}
+use Rattle.flat.specs.Faults.{Report, accepted, yesNo, withCard, alikeReport, cardReport}
+use Rattle.card.specs.declared.CardFault.{CardFault}
+use Rattle.card.specs.declared.CardCheck.the-variants.{Bad}
+use Rattle.card.specs.Reports.{faultReport, checkReport}
+use Rattle.card.proofs.Callers.{GoodCard, good-with, bad-card}
+use Rattle.erasures.proofs.Enumerated.{vector-length}
+use Rattle.likeness.proofs.Comparing.{same-padded}
+
+-- the answer where both cards are good
+abbrev answer : Code → Code → Report
+answer A B = accepted (yesNo (alike A B) ∷ [])
+
+pub alike-first : (first second : List ℕ) (f : CardFault) → checkReport (Bad f) ≡ cardReport first → faultReport f ≡ alikeReport first second
+unfolding alikeReport
+alike-first first second f e = sym (bad-card first f (λ A. withCard second (answer A)) e)
+
+module _ (first second : List ℕ) (k m : ℕ) (g : GoodCard first k m) where
+  abbrev A : Code
+  A = code k m (columnsIn m (drop 2 first))
+
+  alike-with : alikeReport first second ≡ withCard second (answer A)
+  unfolding alikeReport
+  alike-with = good-with first k m (λ D. withCard second (answer D)) g
+
+  pub alike-second : (f : CardFault) → checkReport (Bad f) ≡ cardReport second → faultReport f ≡ alikeReport first second
+  alike-second f e = sym (alike-with ∙ bad-card second f (answer A) e)
+
+  module _ (k′ m′ : ℕ) (h : GoodCard second k′ m′) where
+    abbrev B : Code
+    B = code k′ m′ (columnsIn m′ (drop 2 second))
+
+    -- the report of a verdict that is right
+    pub alike-both : (t : Bool) → t ≡ alike A B → accepted (yesNo t ∷ []) ≡ alikeReport first second
+    alike-both t e = ap (λ (b : Bool). accepted (yesNo b ∷ [])) e ∙ sym (alike-with ∙ good-with second k′ m′ (answer A) h)
+
+    pub data-differs : (k ≡ k′ → ⊥) → false ≡ alike A B
+    unfolding alike
+    data-differs f = rw (ne-eqb k k′ f)
+
+    pub parity-differs : k ≡ k′ → (m ≡ m′ → ⊥) → false ≡ alike A B
+    unfolding alike
+    parity-differs e f = rw (eq-eqb k k′ e, ne-eqb m m′ f)
+
+    pub vectors-decide : k ≡ k′ → m ≡ m′ → same (padded 17 (vector A)) (padded 17 (vector B)) ≡ alike A B
+    unfolding alike
+    vectors-decide e f =
+        same-padded 17 (vector A) (vector B) (vector-length A ∙ f ∙ sym (vector-length B)) ∙ rw (eq-eqb k k′ e, eq-eqb m m′ f)
