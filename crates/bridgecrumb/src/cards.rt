@@ -40,7 +40,7 @@ pub extern "C" fn bridgecrumb_card_write(k: usize, m: usize, columns: &[u16], ou
     ensures { λ r. ⌜ r ≡ coded (cardWriteReport (code k m (now (columns .entry))) (length (now (out .entry)))) ⌝ }
     ensures { λ _. ⌜ now (out .exit) ≡ cardWriteBuffer (code k m (now (columns .entry))) (now (out .entry)) ⌝ }
 {
-    written_code(card::write(k, m, columns, out))
+    written_code(card_writer::write(k, m, columns, out))
 }
 
 // Whether two cards are alike. The first card's refusals come before the second's.

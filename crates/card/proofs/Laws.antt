@@ -1,7 +1,7 @@
 -- The report of a code and of a card at each way out of the tests, what a refusal leaves, and what the code's shift and slice give.
 -- Assumes nothing.
 use mathlib.Core.Path.{_≡_, sym, ap, _∙_}
-use mathlib.Core.Bool.{Bool, true, false, not}
+use mathlib.Core.Bool.{Bool, true, false}
 use mathlib.Core.List.{List, [], _∷_}
 use Prim.Native.Nat.{ℕ, _+_, _-_, _*_, _%_, _^_, _≤_, _<_}
 use native.Mathlib.Nat.{one-mul}
@@ -11,11 +11,10 @@ use lib.Dec.{lit<, eqb}
 use lib.ListN.{length, getD, take, drop, replicate, length-drop}
 use lib.Seq.{take-all}
 use lib.Pow.{shl-exact}
-use Rattle.gf2.specs.If.{if_then_else_}
 use Rattle.flat.specs.Lists.{padded}
-use Rattle.flat.specs.Cards.{Code, code, countOk, firstBad, cardLength, cardBytes, columnsIn, codeOf}
-use Rattle.flat.specs.Faults.{Report, accepted, refused, unlessRefused, codeReport, cardReport, cardColumns, cardWriteReport, cardWriteBuffer}
-use Rattle.flat.proofs.Reports.{unless-accepted, unless-refused}
+use Rattle.flat.specs.Cards.{Code, code, countOk, firstBad, cardLength, columnsIn, codeOf}
+use Rattle.flat.specs.Faults.{Report, accepted, refused, unlessRefused, codeReport, cardReport, cardColumns}
+use Rattle.flat.proofs.Reports.{unless-refused}
 use Rattle.flat.proofs.Cards.{sound-report}
 use Rattle.card.specs.declared.CardFault.{CardFault}
 use Rattle.card.specs.declared.CardFault.the-variants.{Short, DataCount, ParityCount, Length, Column}
@@ -53,7 +52,7 @@ module _ (C : Code) (sized : Bool) (next : Report) where
         code-good j e h =
             sym (ap (λ (b : Bool). codeReport C b next) es ∙ sound-report C next (record { k-ok = ek; m-ok = em; first = omega arith }))
 
--- ---- the reports of a card and of a card to be written
+-- ---- the report of a card
 
 pub card-short : (card : List ℕ) → length card < 2 → refused 1 [] ≡ cardReport card
 unfolding cardReport
@@ -66,13 +65,6 @@ pub card-tests : (card : List ℕ) {r : Report} → 2 ≤ length card →
     r ≡ codeReport (code k m (columnsIn m (drop 2 card))) (eqb (length card) (2 + 2 * m)) (accepted (k ∷ m ∷ [])) → r ≡ cardReport card
 unfolding cardReport codeOf cardLength
 card-tests card h e = simp (le-ltb _ _ h) e
-
--- the writer's report is that of the code, then that of the buffer
-pub write-tests : (C : Code) (n : ℕ) {r : Report}
-    → r ≡ codeReport C (eqb (length (C .columns)) (C .m)) (if not (eqb n (2 + 2 * C .m)) then refused 7 [] else accepted [])
-    → r ≡ cardWriteReport C n
-unfolding cardWriteReport cardLength
-write-tests C n e = e
 
 -- ---- refusals
 
@@ -89,17 +81,3 @@ module _ {A : Type 0} where
 pub columns-refused : (card : List ℕ) (f : CardFault) → faultReport f ≡ cardReport card → replicate 16 0 ≡ cardColumns card
 unfolding cardColumns padded
 columns-refused card f e = sym (ap (padded 16) (unless-fault f (cardReport card) (codeOf card .columns) [] e))
-
--- the buffer after the card writer's answer
-module _ (C : Code) (buffer : List ℕ) where
-  pub buffer-refused : (f : CardFault) → faultReport f ≡ cardWriteReport C (length buffer) → buffer ≡ cardWriteBuffer C buffer
-  unfolding cardWriteBuffer
-  buffer-refused f e = sym (unless-fault f (cardWriteReport C (length buffer)) (cardBytes C) buffer e)
-
-  pub buffer-other : refused 7 [] ≡ cardWriteReport C (length buffer) → buffer ≡ cardWriteBuffer C buffer
-  unfolding cardWriteBuffer
-  buffer-other e = sym (unless-refused (cardWriteReport C (length buffer)) 6 [] (cardBytes C) buffer (sym e))
-
-  pub buffer-written : accepted [] ≡ cardWriteReport C (length buffer) → cardBytes C ≡ cardWriteBuffer C buffer
-  unfolding cardWriteBuffer
-  buffer-written e = sym (unless-accepted (cardWriteReport C (length buffer)) [] (cardBytes C) buffer (sym e))

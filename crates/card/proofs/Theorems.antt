@@ -10,10 +10,8 @@ use Rattle.card.specs.declared.CardFault.{CardFault}
 use Rattle.card.specs.declared.CardFault.the-variants.{Short, DataCount, ParityCount, Length, Column}
 use Rattle.card.specs.declared.CardCheck.{CardCheck}
 use Rattle.card.specs.declared.CardCheck.the-variants.{Good, Bad}
-use Rattle.card.specs.declared.CardWritten.{CardWritten}
-use Rattle.card.specs.declared.CardWritten.the-variants.{Done, Refused, Buffer}
-use Rattle.card.specs.Reports.{faultReport, checkReport, writtenReport}
-use Rattle.card.specs.Theorems.{FaultInjective, CheckInjective, WrittenInjective}
+use Rattle.card.specs.Reports.{faultReport, checkReport}
+use Rattle.card.specs.Theorems.{FaultInjective, CheckInjective}
 
 -- the fault that a report comes from
 abbrev faultOf : Report → CardFault
@@ -39,17 +37,9 @@ module _ {A : Type 0} where
 abbrev checkOf : Report → CardCheck
 checkOf r = carried r Bad (Good (getD (r .values) 0 0) (getD (r .values) 1 0))
 
-abbrev writtenOf : Report → CardWritten
-writtenOf r = carried r Refused (if eqb (r .number) 0 then Done else Buffer)
-
 check-back : (r : CardCheck) → checkOf (checkReport r) ≡ r
 check-back (Good k m) = refl
 check-back (Bad f) = carried-back f Bad _
-
-written-back : (r : CardWritten) → writtenOf (writtenReport r) ≡ r
-written-back Done = refl
-written-back (Refused f) = carried-back f Refused _
-written-back Buffer = refl
 
 pub fault-injective : FaultInjective
 fault-injective a b e =
@@ -57,6 +47,3 @@ fault-injective a b e =
 
 pub check-injective : CheckInjective
 check-injective a b e = sym (check-back a) ∙ ap checkOf e ∙ check-back b
-
-pub written-injective : WrittenInjective
-written-injective a b e = sym (written-back a) ∙ ap writtenOf e ∙ written-back b

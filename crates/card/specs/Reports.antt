@@ -6,8 +6,6 @@ use Rattle.card.specs.declared.CardFault.{CardFault}
 use Rattle.card.specs.declared.CardFault.the-variants.{Short, DataCount, ParityCount, Length, Column}
 use Rattle.card.specs.declared.CardCheck.{CardCheck}
 use Rattle.card.specs.declared.CardCheck.the-variants.{Good, Bad}
-use Rattle.card.specs.declared.CardWritten.{CardWritten}
-use Rattle.card.specs.declared.CardWritten.the-variants.{Done, Refused, Buffer}
 
 -- a card's fault
 abbrev pub faultReport : CardFault → Report
@@ -21,9 +19,3 @@ faultReport (Column j) = refused 5 (j ∷ [])
 abbrev pub checkReport : CardCheck → Report
 checkReport (Good k m) = accepted (k ∷ m ∷ [])
 checkReport (Bad f) = faultReport f
-
--- the card writer
-abbrev pub writtenReport : CardWritten → Report
-writtenReport Done = accepted []
-writtenReport (Refused f) = faultReport f
-writtenReport Buffer = refused 7 []

@@ -1,15 +1,16 @@
 // Cards: the bytes that describe a code, k, m, then m columns of two bytes, low byte first. The check
-// that every call makes of a card, the card reader, the card writer, and one column out of the bytes.
+// that every call makes of a card, the card reader, one column out of the bytes, and the tests of counts
+// and columns that the card writer shares.
 //
-// Every byte string is a legal argument of `check` and `read`, and every number, list and buffer one
-// of `write`. What is answered for which input is said in flat/specs/Faults.antt.
+// Every byte string is a legal argument of `check` and `read`. What is answered for which input is said
+// in flat/specs/Faults.antt.
 ghost use mathlib.Core.Path.{_≡_};
 ghost use Prim.Native.Nat.{_+_, _*_, _<_, _≤_};
 ghost use lib.ListN.{length};
 ghost use Rattle.flat.specs.Lists.{padded, field};
-ghost use Rattle.flat.specs.Cards.{code, countOk, columnOk, firstBad, columnsIn, cardLength, cardBytes};
-ghost use Rattle.flat.specs.Faults.{cardReport, cardColumns, cardWriteReport, cardWriteBuffer};
-ghost use Rattle.card.specs.Reports.{checkReport, writtenReport};
+ghost use Rattle.flat.specs.Cards.{countOk, columnOk, firstBad, columnsIn};
+ghost use Rattle.flat.specs.Faults.{cardReport, cardColumns};
+ghost use Rattle.card.specs.Reports.{checkReport};
 
 // A fault of whoever wrote the card. Column names the first column that is 0 or has a bit at k or above.
 pub enum CardFault {
@@ -33,15 +34,8 @@ pub struct CardRead {
     pub columns: [u16; 16],
 }
 
-// The card writer's answer: written, a fault of the card that was to be, or a buffer of another length.
-pub enum CardWritten {
-    Done,
-    Refused(CardFault),
-    Buffer,
-}
-
 // 1 to 16.
-fn count_ok(n: usize) -> bool
+pub fn count_ok(n: usize) -> bool
     ensures { λ r. ⌜ r ≡ countOk n ⌝ }
 {
     if n < 1 {
@@ -62,7 +56,7 @@ fn column_ok(k: usize, c: u16) -> bool
 }
 
 // The index of the first column that is none, or how many columns there are.
-fn first_bad(k: usize, columns: &[u16]) -> usize
+pub fn first_bad(k: usize, columns: &[u16]) -> usize
     requires { ⌜ k ≤ 16 ⌝ }
     ensures { λ r. ⌜ r ≡ firstBad k (now (columns .entry)) ⌝ }
 {
@@ -138,60 +132,6 @@ pub fn read(card: &[u8]) -> CardRead
         CardCheck::Good { k: _, m } => {
             let columns = columns_of(m, &card[2..]);
             CardRead { check, columns }
-        }
-    }
-}
-
-// What the card writer answers for a buffer of n bytes.
-fn write_check(k: usize, m: usize, columns: &[u16], n: usize) -> CardWritten
-    ensures { λ r. ⌜ writtenReport r ≡ cardWriteReport (code k m (now (columns .entry))) n ⌝ }
-{
-    if !count_ok(k) {
-        return CardWritten::Refused(CardFault::DataCount);
-    }
-    if !count_ok(m) {
-        return CardWritten::Refused(CardFault::ParityCount);
-    }
-    if columns.len() != m {
-        return CardWritten::Refused(CardFault::Length);
-    }
-    let bad = first_bad(k, columns);
-    if bad < m {
-        return CardWritten::Refused(CardFault::Column(bad));
-    }
-    if n != 2 + 2 * m {
-        return CardWritten::Buffer;
-    }
-    CardWritten::Done
-}
-
-// Puts the card's bytes into a buffer of their length.
-fn put(k: usize, m: usize, columns: &[u16], out: &mut [u8])
-    requires { ⌜ (k ≤ 16) × (m ≤ 16) × (length (now columns) ≡ m) × (length (now out) ≡ cardLength m) ⌝ }
-    ensures { λ _. ⌜ now (out .exit) ≡ cardBytes (code k m (now (columns .entry))) ⌝ }
-{
-    out[0] = k as u8;
-    out[1] = m as u8;
-    for j in 0..m {
-        let c = columns[j];
-        let at = 2 + 2 * j;
-        out[at] = (c % 256) as u8;
-        out[at + 1] = (c / 256) as u8;
-    }
-}
-
-// The card writer: the card of k, m and the columns into a buffer of exactly its length.
-pub fn write(k: usize, m: usize, columns: &[u16], out: &mut [u8]) -> CardWritten
-    ensures { λ r. ⌜ writtenReport r ≡ cardWriteReport (code k m (now (columns .entry))) (length (now (out .entry))) ⌝ }
-    ensures { λ _. ⌜ now (out .exit) ≡ cardWriteBuffer (code k m (now (columns .entry))) (now (out .entry)) ⌝ }
-{
-    let answer = write_check(k, m, columns, out.len());
-    match answer {
-        CardWritten::Refused(_) => answer,
-        CardWritten::Buffer => answer,
-        CardWritten::Done => {
-            put(k, m, columns, out);
-            answer
         }
     }
 }

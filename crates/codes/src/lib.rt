@@ -5,7 +5,8 @@
 // Every function assumes that the value is below 2 ^ 32, so that the number fits into 64 bits.
 ghost use mathlib.Core.Path.{_≡_};
 ghost use Prim.Native.Nat.{_+_, _*_, _<_};
-ghost use Rattle.card.specs.Reports.{faultReport, writtenReport};
+ghost use Rattle.card.specs.Reports.{faultReport};
+ghost use Rattle.card_writer.specs.Reports.{writtenReport};
 ghost use Rattle.erasures.specs.Reports.{verdictReport};
 ghost use Rattle.likeness.specs.Reports.{alikeReport};
 ghost use Rattle.equations.specs.Reports.{toldReport};
@@ -13,7 +14,7 @@ ghost use Rattle.encoder.specs.Reports.{encodedReport};
 ghost use Rattle.rebuilder.specs.Reports.{rebuiltReport};
 ghost use Rattle.codes.specs.Coded.{value, coded};
 use card::CardFault;
-use card::CardWritten;
+use card_writer::CardWritten;
 use encoder::Encoded;
 use equations::Told;
 use erasures::SetVerdict;

@@ -2,8 +2,8 @@
 use mathlib.Core.Path.{sym, ap, _∙_, subst}
 use Prim.Native.Nat.{_<_}
 use borrow.Author.Needs.{needs}
-use Rattle.card.specs.declared.CardWritten.{CardWritten}
-use Rattle.card.specs.Reports.{writtenReport}
+use Rattle.card_writer.specs.declared.CardWritten.{CardWritten}
+use Rattle.card_writer.specs.Reports.{writtenReport}
 use Rattle.codes.specs.Coded.{value, coded}
 use Rattle.codes.proofs.written_code.Statement.{statement}
 use Rattle.codes.proofs.written_code.Tie as tie

@@ -1,4 +1,4 @@
--- `card::put` meets its contract: after j turns the buffer agrees with the card in the first 2 + 2 j bytes.
+-- `card_writer::put` meets its contract: after j turns the buffer agrees with the card in the first 2 + 2 j bytes.
 -- Assumes nothing.
 use mathlib.Core.Path.{_≡_, refl, sym, _∙_}
 use Prim.Native.Nat.{_+_, _-_, _*_, _/_, _%_, _≤_, _<_}
@@ -8,9 +8,9 @@ use denote.Ref.{now}
 use lib.ListN.{length, getD, set, length-set}
 use Rattle.flat.specs.Cards.{code, cardLength, cardBytes}
 use Rattle.flat.proofs.RoundTrip.{length-card}
-use Rattle.card.proofs.Loops.{Agree, agree-none, agree-more, agree-all, card-low, card-high}
-use Rattle.card.proofs.put.Statement.{statement}
-use Rattle.card.proofs.put.Tie as tie
+use Rattle.card_writer.proofs.Loops.{Agree, agree-none, agree-more, agree-all, card-low, card-high}
+use Rattle.card_writer.proofs.put.Statement.{statement}
+use Rattle.card_writer.proofs.put.Tie as tie
 
 abbrev Inv-loop : tie.InvT-loop
 Inv-loop k m columns out₀ j₀ out j = (j ≤ m) × Agree (cardBytes (code k m columns)) out (2 + 2 * j)

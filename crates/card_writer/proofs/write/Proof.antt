@@ -1,4 +1,4 @@
--- `card::write` meets its contract: the check's report, and the card in the buffer where it refuses nothing.
+-- `card_writer::write` meets its contract: the check's report, and the card in the buffer where it refuses nothing.
 -- Assumes nothing.
 use mathlib.Core.Path.{_≡_, sym, ap, _∙_}
 use borrow.Author.Needs.{needs}
@@ -8,11 +8,11 @@ use Rattle.flat.specs.Cards.{code}
 use Rattle.flat.specs.Faults.{cardWriteReport}
 use Rattle.flat.proofs.Cards.{count-in}
 use Rattle.flat.proofs.RoundTrip.{writable}
-use Rattle.card.specs.declared.CardWritten.the-variants.{Done}
-use Rattle.card.specs.Reports.{writtenReport}
-use Rattle.card.proofs.Laws.{buffer-refused, buffer-other, buffer-written}
-use Rattle.card.proofs.write.Statement.{statement}
-use Rattle.card.proofs.write.Tie as tie
+use Rattle.card_writer.specs.declared.CardWritten.the-variants.{Done}
+use Rattle.card_writer.specs.Reports.{writtenReport}
+use Rattle.card_writer.proofs.Laws.{buffer-refused, buffer-other, buffer-written}
+use Rattle.card_writer.proofs.write.Statement.{statement}
+use Rattle.card_writer.proofs.write.Tie as tie
 
 write-check-requires : tie.Need-write-check-requires
 write-check-requires c κs = search needs

@@ -1,4 +1,4 @@
--- `card::write_check` meets its contract: at each way out the report is that of the code's tests.
+-- `card_writer::write_check` meets its contract: at each way out the report is that of the code's tests.
 -- Assumes nothing.
 use mathlib.Core.Path.{_≡_, sym, _∙_}
 use mathlib.Core.Bool.{true, not}
@@ -13,9 +13,10 @@ use Rattle.gf2.specs.If.{if_then_else_}
 use Rattle.flat.specs.Cards.{code, countOk}
 use Rattle.flat.specs.Faults.{Report, accepted, refused, codeReport}
 use Rattle.flat.proofs.Cards.{count-in}
-use Rattle.card.proofs.Laws.{code-data, code-parity, code-length, code-column, code-good, write-tests}
-use Rattle.card.proofs.write_check.Statement.{statement}
-use Rattle.card.proofs.write_check.Tie as tie
+use Rattle.card.proofs.Laws.{code-data, code-parity, code-length, code-column, code-good}
+use Rattle.card_writer.proofs.Laws.{write-tests}
+use Rattle.card_writer.proofs.write_check.Statement.{statement}
+use Rattle.card_writer.proofs.write_check.Tie as tie
 
 count-ok-requires : tie.Need-count-ok-requires
 count-ok-requires c κs = search needs
