@@ -1,9 +1,9 @@
--- What a comparison keeps that stops at the first difference: of bytes, and of tests that each number below a bound has to pass.
+-- What a comparison of bytes keeps that stops at the first difference.
 -- Assumes nothing.
 use mathlib.Core.Path.{_≡_, sym, ap, _∙_}
 use mathlib.Core.Bool.{Bool, true, false, _&&_}
 use mathlib.Core.List.{List}
-use Prim.Native.Nat.{ℕ, suc, _+_, _*_, _≤_, _<_}
+use Prim.Native.Nat.{ℕ, suc, _+_, _≤_, _<_}
 use native.Mathlib.Nat.{add-zero}
 use native.Mathlib.Numerals.{add-one}
 use native.Mathlib.Omega.{arith}
@@ -11,13 +11,7 @@ use borrow.Author.Tests.{eq-eqb, ne-eqb}
 use lib.Dec.{eqb}
 use lib.ListN.{length, getD, take, drop}
 use lib.Seq.{drop-cons, drop-length}
-use Rattle.gf2.proofs.Tests.{T-false, false-T}
-use Rattle.flat.specs.Lists.{every, same}
-use Rattle.flat.specs.Records.{entryIn}
-use Rattle.flat.proofs.Quantifiers.{every-out}
-use Rattle.contents.specs.Places.{stripEntryFrom}
-
--- ---- bytes
+use Rattle.flat.specs.Lists.{same}
 
 -- whether the wanted bytes from t on stand in s
 unfoldable pub from : List ℕ → ℕ → List ℕ → ℕ → Bool
@@ -55,26 +49,3 @@ unfolding from
 standing-all s at wanted t r h =
     let e : t ≡ length wanted = omega (arith, r .within) in
     sym (r .so-far ∙ ap (λ (i : ℕ). from s at wanted i) e ∙ rw drop-length)
-
--- ---- tests
-
-pub every-more : (i : ℕ) (p : ℕ → Bool) → every i p ≡ true → p i ≡ true → every (i + 1) p ≡ true
-unfolding every
-every-more i p e h = rw (add-one, e, h)
-
--- one test that fails
-pub every-other : (n i : ℕ) (p : ℕ → Bool) → i < n → p i ≡ false → false ≡ every n p
-every-other n i p l e = sym (T-false (λ t. false-T e (every-out n p t i l)))
-
--- ---- entries
-
--- whether disk i has the entry that is written for it
-abbrev pub entryStands : List ℕ → ℕ → ℕ → ℕ → ℕ → Bool
-entryStands file start L S i = same (entryIn file (suc i)) (stripEntryFrom start L S i)
-
-pub entry-stands : (file wanted : List ℕ) (start L S i : ℕ) (b : Bool) → length wanted ≡ 10 → wanted ≡ stripEntryFrom start L S i
-    → b ≡ same (take (length wanted) (drop (20 + 10 * i) file)) wanted → entryStands file start L S i ≡ b
-unfolding entryIn
-entry-stands file wanted start L S i b n e q =
-    let at : 10 + 10 * suc i ≡ 20 + 10 * i = omega arith in
-    sym (q ∙ rw (n, e, sym at))

@@ -11,13 +11,6 @@ ghost use Rattle.flat.specs.Lists.{bytes, field, same};
 ghost use Rattle.flat.specs.Records.{entry};
 ghost use Rattle.contents.specs.Places.{stripsAt, bodyFrom, stripEntryFrom};
 
-mod disks;
-
-pub use disks::entries_stand;
-pub use disks::lost_in;
-pub use disks::put_bodies;
-pub use disks::put_entries;
-
 // Whether the bytes stand in the slice at a place.
 pub fn stands(s: &[u8], at: usize, wanted: &[u8]) -> bool
     requires { ⌜ at + length (now wanted) ≤ length (now s) ⌝ }

@@ -14,8 +14,8 @@ pub fn check_strips(file: &[u8], k: usize, m: usize, l: usize) -> RecordCheck
 {
     let n = k + m;
     let start = contents::strips_at(n, m);
-    let lost = contents::lost_in(file, n);
-    let listed = contents::entries_stand(file, start, l, lost, n);
+    let lost = entries::lost_in(file, n);
+    let listed = entries::entries_stand(file, start, l, lost, n);
     let sized = file.len() == contents::body_at(start, l, lost, n);
     if !listed {
         return RecordCheck::Bad(RecordFault::Contents);

@@ -15,7 +15,7 @@ use Rattle.card.proofs.Callers.{GoodCard}
 use Rattle.copies.specs.Put.{put}
 use Rattle.copies.proofs.Putting.{put-next}
 use Rattle.contents.specs.Places.{stripsAt, bodyFrom, stripEntryFrom}
-use Rattle.contents.proofs.Lengths.{length-entry, length-entries, bodies-end}
+use Rattle.entries.proofs.Lengths.{length-entry, length-entries, bodies-end}
 use Rattle.record_writer.specs.Layout.{recordFrom}
 
 -- the sizes after the mark

@@ -77,9 +77,9 @@ fn put_record(card: &[u8], n: usize, l: usize, lost: u32, stripe: &[u8], out: &m
     copies::copy(out, 4, &sizes);
     let entry = contents::entry(0, 0, bodies, card.len());
     copies::copy(out, 10, &entry);
-    contents::put_entries(out, start, l, lost, n);
+    entries::put_entries(out, start, l, lost, n);
     copies::copy(out, bodies, card);
-    contents::put_bodies(out, start, l, lost, stripe, n);
+    entries::put_bodies(out, start, l, lost, stripe, n);
 }
 
 // The writer, for a good card of k and m.

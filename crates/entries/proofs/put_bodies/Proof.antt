@@ -1,14 +1,14 @@
--- `contents::disks::put_bodies` meets its contract: each body goes right after the one before it.
+-- `entries::put_bodies` meets its contract: each body goes right after the one before it.
 -- Assumes nothing.
 use mathlib.Core.Path.{_≡_, refl}
 use Prim.Native.Nat.{suc, _-_, _≤_}
 use native.Mathlib.Omega.{arith}
 use Rattle.flat.specs.Records.{stripBody}
-use Rattle.contents.proofs.Runs.{Laid, laid-none, laid-more, laid-all}
-use Rattle.contents.proofs.Lengths.{strip-room, body-next, bodies-end, body-grows}
+use Rattle.entries.proofs.Runs.{Laid, laid-none, laid-more, laid-all}
+use Rattle.entries.proofs.Lengths.{strip-room, body-next, bodies-end, body-grows}
 use borrow.Author.Needs.{needs}
-use Rattle.contents.proofs.disks.put_bodies.Statement.{statement}
-use Rattle.contents.proofs.disks.put_bodies.Tie as tie
+use Rattle.entries.proofs.put_bodies.Statement.{statement}
+use Rattle.entries.proofs.put_bodies.Tie as tie
 
 abbrev Inv-loop : tie.InvT-loop
 Inv-loop out₀ start l lost stripe n i₀ out i = (i ≤ n) × Laid (stripBody l lost stripe) out₀ start i out

@@ -1,4 +1,4 @@
--- `contents::disks::put_body` meets its contract: the strip is copied where the disk is not lost.
+-- `entries::put_body` meets its contract: the strip is copied where the disk is not lost.
 -- Assumes nothing.
 use mathlib.Core.Path.{_≡_, sym, ap, ap₂, _∙_}
 use mathlib.Core.Bool.{true, false}
@@ -8,10 +8,10 @@ use borrow.Author.Tests.{not-true, not-false}
 use Rattle.gf2.specs.Sets.{has}
 use Rattle.copies.specs.Put.{put}
 use Rattle.copies.proofs.Putting.{put-none}
-use Rattle.contents.proofs.Lengths.{part-strip, body-there, body-lost, body-next}
+use Rattle.entries.proofs.Lengths.{part-strip, body-there, body-lost, body-next}
 use borrow.Author.Needs.{needs}
-use Rattle.contents.proofs.disks.put_body.Statement.{statement}
-use Rattle.contents.proofs.disks.put_body.Tie as tie
+use Rattle.entries.proofs.put_body.Statement.{statement}
+use Rattle.entries.proofs.put_body.Tie as tie
 
 cast-has : tie.Need-cast-has
 cast-has c = search needs

@@ -1,4 +1,7 @@
-// The entries and the bodies of the strips, disk by disk: put by the writer, and compared by the reader.
+// The entries and the bodies of a record's strips, disk by disk: put by the writer, and compared by the reader.
+//
+// `start` is everywhere where the first strip's body goes, after contents and card. Each contract says what
+// is assumed of the arguments.
 ghost use mathlib.Core.Path.{_≡_};
 ghost use Prim.Native.Nat.{suc, _+_, _*_, _<_, _≤_};
 ghost use lib.Dec.{eqb};
@@ -6,10 +9,10 @@ ghost use lib.ListN.{length, getD};
 ghost use Rattle.flat.specs.Lists.{every, setOf, range, each, same};
 ghost use Rattle.flat.specs.Records.{stripBody, entryIn};
 ghost use Rattle.copies.specs.Put.{put};
 ghost use Rattle.contents.specs.Places.{bodyFrom, stripEntryFrom};
-use crate::body_at;
-use crate::stands;
-use crate::strip_entry;
+use contents::body_at;
+use contents::stands;
+use contents::strip_entry;
 use copies::copy;
 use copies::copy_long;
 

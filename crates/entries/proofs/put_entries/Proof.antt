@@ -1,14 +1,14 @@
--- `contents::disks::put_entries` meets its contract: each entry goes right after the one before it.
+-- `entries::put_entries` meets its contract: each entry goes right after the one before it.
 -- Assumes nothing.
 use mathlib.Core.Path.{_≡_}
 use Prim.Native.Nat.{_-_, _≤_}
 use native.Mathlib.Omega.{arith}
 use Rattle.contents.specs.Places.{stripEntryFrom}
-use Rattle.contents.proofs.Runs.{Laid, laid-none, laid-more, laid-all}
-use Rattle.contents.proofs.Lengths.{length-strip-entry, length-entries}
+use Rattle.entries.proofs.Runs.{Laid, laid-none, laid-more, laid-all}
+use Rattle.entries.proofs.Lengths.{length-strip-entry, length-entries}
 use borrow.Author.Needs.{needs}
-use Rattle.contents.proofs.disks.put_entries.Statement.{statement}
-use Rattle.contents.proofs.disks.put_entries.Tie as tie
+use Rattle.entries.proofs.put_entries.Statement.{statement}
+use Rattle.entries.proofs.put_entries.Tie as tie
 
 abbrev Inv-loop : tie.InvT-loop
 Inv-loop out₀ start l lost n i₀ out i = (i ≤ n) × Laid (stripEntryFrom start l lost) out₀ 20 i out

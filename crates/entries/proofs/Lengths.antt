@@ -14,8 +14,8 @@ use Rattle.gf2.specs.Sets.{has}
 use Rattle.gf2.proofs.Tests.{below-suc}
 use Rattle.flat.specs.Lists.{bytes, count, range, each}
 use Rattle.flat.specs.Records.{entry, stripBody}
 use Rattle.contents.specs.Places.{bodyFrom, stripEntryFrom}
-use Rattle.contents.proofs.Runs.{each-suc}
+use Rattle.entries.proofs.Runs.{each-suc}
 
 pub length-entry : (kind disk offset len : ℕ) → length (entry kind disk offset len) ≡ 10
 unfolding entry bytes

@@ -1,4 +1,4 @@
--- `contents::disks::lost_in` meets its contract: the set of the lost disks that the loop has passed.
+-- `entries::lost_in` meets its contract: the set of the lost disks that the loop has passed.
 -- Assumes nothing.
 use mathlib.Core.Path.{_≡_, refl, ap, _∙_}
 use mathlib.Core.Logic.{⊎-elim}
@@ -7,9 +7,9 @@ use native.Mathlib.Omega.{arith}
 use Rattle.flat.specs.Lists.{setOf}
 use denote.Ref.{now}
 use borrow.Author.Needs.{needs}
-use Rattle.contents.proofs.Numbers.{lostAt, lost-fits, lost-more, lost-same}
-use Rattle.contents.proofs.disks.lost_in.Statement.{statement}
-use Rattle.contents.proofs.disks.lost_in.Tie as tie
+use Rattle.entries.proofs.LostSet.{lostAt, lost-fits, lost-more, lost-same}
+use Rattle.entries.proofs.lost_in.Statement.{statement}
+use Rattle.entries.proofs.lost_in.Tie as tie
 
 abbrev Inv-loop : tie.InvT-loop
 Inv-loop file n lost₀ i₀ lost i = (i ≤ n) × (lost ≡ setOf i (lostAt file))

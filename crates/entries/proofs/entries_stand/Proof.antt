@@ -1,4 +1,4 @@
--- `contents::disks::entries_stand` meets its contract: the entries that the loop has passed are those that are written.
+-- `entries::entries_stand` meets its contract: the entries that the loop has passed are those that are written.
 -- Assumes nothing.
 use mathlib.Core.Path.{_≡_, refl, sym, ap, _∙_}
 use mathlib.Core.Bool.{true}
@@ -8,9 +8,9 @@ use borrow.Author.Tests.{not-true, not-false}
 use denote.Ref.{now}
 use Rattle.flat.specs.Lists.{every}
 use borrow.Author.Needs.{needs}
-use Rattle.contents.proofs.Compared.{entryStands, entry-stands, every-more, every-other}
-use Rattle.contents.proofs.disks.entries_stand.Statement.{statement}
-use Rattle.contents.proofs.disks.entries_stand.Tie as tie
+use Rattle.entries.proofs.Compared.{entryStands, entry-stands, every-more, every-other}
+use Rattle.entries.proofs.entries_stand.Statement.{statement}
+use Rattle.entries.proofs.entries_stand.Tie as tie
 
 abbrev Inv-loop : tie.InvT-loop
 Inv-loop file start l lost n i₀ i = (i ≤ n) × (every i (entryStands file start l lost) ≡ true)

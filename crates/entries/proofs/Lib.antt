@@ -1,0 +1,4 @@
+pub mod Compared
+pub mod LostSet
+pub mod Runs
+pub mod Lengths
