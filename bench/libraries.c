@@ -1,17 +1,10 @@
 #include <isa-l/raid.h>
 #include <liberasurecode/erasurecode.h>
 #include <liberasurecode/xor_code.h>
-#include <stdio.h>
-#include <stdlib.h>
 #include <string.h>
 
+#include "bench.h"
 #include "libraries.h"
-
-void stop(const char *what)
-{
-    fprintf(stderr, "bench: %s\n", what);
-    exit(1);
-}
 
 static xor_code_t *own_code(void)
 {

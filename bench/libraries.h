@@ -26,7 +26,4 @@ void api_decode(struct job *job);
 void api_encode_shown(struct job *job);
 void api_decode_shown(struct job *job);
 
-/* ends the program */
-void stop(const char *what);
-
 #endif

@@ -3,12 +3,10 @@
  * that the calls use is measured.
  */
 #include <pthread.h>
-#include <stdio.h>
-#include <stdlib.h>
 #include <string.h>
-#include <time.h>
 
 #include "../tests/chance.h"
+#include "bench.h"
 #include "bridgecrumb.h"
 #include "peer.h"
 
@@ -49,32 +47,17 @@ static void chain(uint8_t *card, int k)
 
 /* ---- the comparison, the times and the stack */
 
-static double now_ms(void)
-{
-    struct timespec t;
-    clock_gettime(CLOCK_MONOTONIC, &t);
-    return t.tv_sec * 1e3 + t.tv_nsec / 1e6;
-}
-
-static void stop(const char *what)
-{
-    fprintf(stderr, "bench: %s\n", what);
-    exit(1);
-}
-
 static uint32_t peers[ENTRIES], engines[ENTRIES];
 
-/* times of one run, and the least of all runs so far */
+/* seconds of one run, and the least of all runs so far */
 struct times {
     double peer, engine;
 };
 
 static void keep_least(struct times *least, double start, double middle, double end)
 {
-    if (middle - start < least->peer)
-        least->peer = middle - start;
-    if (end - middle < least->engine)
-        least->engine = end - middle;
+    least->peer = least_of(least->peer, middle - start);
+    least->engine = least_of(least->engine, end - middle);
 }
 
 /* both wrote the same, past the count too */
@@ -89,7 +72,7 @@ static void same_lists(uint64_t answer, size_t count)
 
 static double print_row(const char *name, const uint8_t *card, size_t count, struct times t)
 {
-    printf("%-14s %3d %3d %8zu %10.3f %10.3f %8.2f\n", name, card[0], card[1], count, t.peer, t.engine, t.peer / t.engine);
+    printf("%-14s %3d %3d %8zu %10.3f %10.3f %8.2f\n", name, card[0], card[1], count, t.peer * 1e3, t.engine * 1e3, t.peer / t.engine);
     fflush(stdout);
     return t.peer / t.engine;
 }
@@ -101,11 +84,11 @@ static double compare_lists(const char *name, const uint8_t *card)
     for (int run = 0; run < BEST_OF; run++) {
         memset(peers, 0xff, sizeof peers);
         memset(engines, 0xff, sizeof engines);
-        double start = now_ms();
+        double start = now();
         count = peer_list(card, peers, peers_vector);
-        double middle = now_ms();
+        double middle = now();
         uint64_t answer = bridgecrumb_list(card, length, engines, ENTRIES, engines_vector);
-        keep_least(&least, start, middle, now_ms());
+        keep_least(&least, start, middle, now());
         same_lists(answer, count);
         for (int i = 0; i < 17; i++)
             if (peers_vector[i] != engines_vector[i])
@@ -121,11 +104,11 @@ static double compare_equations(const char *name, const uint8_t *card, int disk)
     for (int run = 0; run < BEST_OF; run++) {
         memset(peers, 0xff, sizeof peers);
         memset(engines, 0xff, sizeof engines);
-        double start = now_ms();
+        double start = now();
         count = peer_equations(card, disk, peers);
-        double middle = now_ms();
+        double middle = now();
         uint64_t answer = bridgecrumb_equations(card, length, disk, engines, ENTRIES);
-        keep_least(&least, start, middle, now_ms());
+        keep_least(&least, start, middle, now());
         same_lists(answer, count);
     }
     return print_row(name, card, count, least);
@@ -142,13 +125,13 @@ static double compare_verdicts(const char *name, const uint8_t *card)
         for (sets[i] = 0; __builtin_popcount(sets[i]) < card[1];)
             sets[i] |= (uint32_t)1 << pseudo_random() % n;
     for (int run = 0; run < BEST_OF; run++) {
-        double start = now_ms();
+        double start = now();
         for (int i = 0; i < SETS; i++)
             peers_say[i] = peer_verdict(card, sets[i]);
-        double middle = now_ms();
+        double middle = now();
         for (int i = 0; i < SETS; i++)
             engines_say[i] = (uint32_t)bridgecrumb_verdict(card, length, sets[i]);
-        keep_least(&least, start, middle, now_ms());
+        keep_least(&least, start, middle, now());
         fatal = 0;
         for (int i = 0; i < SETS; i++) {
             if (engines_say[i] != 256 * peers_say[i])
@@ -237,12 +220,7 @@ static size_t stack_of(void *(*call)(void *), const uint8_t *card)
     return used;
 }
 
-static double least_of(double a, double b)
-{
-    return a < b ? a : b;
-}
-
-int main(void)
+void bench_lists(void)
 {
     static uint8_t cards[7][34];
     double lists = 1e9, equations = 1e9, verdicts = 1e9;
@@ -278,5 +256,4 @@ int main(void)
     printf("stack: bridgecrumb_list %zu bytes, bridgecrumb_equations %zu bytes, bridgecrumb_verdict %zu bytes\n", list, told, verdict);
     if (list >= STACK_LIMIT || told >= STACK_LIMIT)
         stop("a call uses 64 KiB of stack or more");
-    return 0;
 }

@@ -4,12 +4,10 @@
  * by strip by memcpy, and checks nothing. All take turns in this process, and the best time of each counts. A ratio is the
  * peer's time by the engine's: above 1 the engine is faster.
  */
-#include <stdio.h>
-#include <stdlib.h>
 #include <string.h>
-#include <time.h>
 
 #include "../tests/chance.h"
+#include "bench.h"
 #include "bridgecrumb.h"
 #include "job.h"
 
@@ -21,12 +19,6 @@ static uint8_t stripe[LARGEST_STRIPE] __attribute__((aligned(64)));
 static uint8_t out[LARGEST_RECORD] __attribute__((aligned(64)));
 static uint8_t right[LARGEST_RECORD] __attribute__((aligned(64))); /* the record, by the plain writer */
 static size_t length;
-
-static void stop(const char *what)
-{
-    fprintf(stderr, "bench: %s\n", what);
-    exit(1);
-}
 
 /* each bit of each column by a coin */
 static void coins(struct job *job, int k, int m)
@@ -97,18 +89,6 @@ static void call_memcpy(const struct job *job)
 }
 
 /* ---- the times */
-
-static double now(void)
-{
-    struct timespec t;
-    clock_gettime(CLOCK_MONOTONIC, &t);
-    return t.tv_sec + t.tv_nsec / 1e9;
-}
-
-static double least_of(double a, double b)
-{
-    return a < b ? a : b;
-}
 
 enum { ENGINE, MEMCPY, PLAIN, WRITERS };
 
@@ -200,7 +180,7 @@ static double read_row(struct job *job, uint32_t lost)
     return best[1] / best[0] > best[3] / best[2] ? best[1] / best[0] : best[3] / best[2];
 }
 
-int main(void)
+void bench_records(void)
 {
     static const size_t strip_lens[] = {65536, 4096, 256};
     static struct job jobs[3];
@@ -224,5 +204,4 @@ int main(void)
     for (int l = 0; l < 3; l++)
         printf("  L = %-6zu %.2f\n", strip_lens[l], least[l]);
     printf("reading a record of strips of 65,536 bytes takes at most %.2f times as long as one of strips of 1 byte\n", most);
-    return 0;
 }

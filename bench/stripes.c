@@ -3,11 +3,10 @@
  * Each is first held to the bytes of the plain loop, then all take turns on the same stripe in this process, and the best time
  * of each counts. A ratio is the peer's time by the engine's: above 1 the engine is faster.
  */
-#include <stdio.h>
 #include <string.h>
-#include <time.h>
 
 #include "../tests/chance.h"
+#include "bench.h"
 #include "bridgecrumb.h"
 #include "libraries.h"
 #include "plain.h"
@@ -119,18 +118,6 @@ static void encoded_stripe(struct job *job, size_t strip_len)
 
 /* ---- the times */
 
-static double now(void)
-{
-    struct timespec t;
-    clock_gettime(CLOCK_MONOTONIC, &t);
-    return t.tv_sec + t.tv_nsec / 1e9;
-}
-
-static double least_of(double a, double b)
-{
-    return a < b ? a : b;
-}
-
 /* the best of the times so far and that of one more round of calls */
 static double better(double best, struct job *job, contestant call)
 {
@@ -233,7 +220,7 @@ static void rebuild_rows(const char *name, struct job *job, int own, uint32_t lo
     print_race(&race, job, 65536, least);
 }
 
-int main(void)
+void bench_stripes(void)
 {
     static struct job dense[4], own;
     static const char *const names[] = {"all ones", "all ones", "by a coin", "by a coin"};
@@ -260,5 +247,4 @@ int main(void)
     printf("  the multiplying loop, over all strip lengths:        %.2f\n", least_of(of_dense[MULTIPLYING], of_own[MULTIPLYING]));
     printf("  liberasurecode's kernel, rebuilding:                 %.2f\n", of_rebuild[KERNEL]);
     printf("  liberasurecode's API, rebuilding:                    %.2f\n", of_rebuild[API]);
-    return 0;
 }

@@ -1,4 +1,4 @@
-/* Cards by document 01's words: a column, and the card's refusal. It shares nothing with the engine. */
+/* Cards by document 01's words: a column, the card's refusal, and that of a stripe with it. It shares nothing with the engine. */
 #ifndef CARD_REFERENCE_H
 #define CARD_REFERENCE_H
 
@@ -32,6 +32,20 @@ static uint64_t card_refusal(const uint8_t *card, size_t length)
         if (column_of(card, j) == 0 || column_of(card, j) >= (uint32_t)1 << card[0])
             return refused(5, j);
     return 0;
+}
+
+/* the refusal of a card, a strip length, a lost set and a stripe's length, or 0 */
+static inline uint64_t stripe_refusal(const uint8_t *card, size_t card_len, size_t strip_len, uint32_t lost, size_t stripe_len)
+{
+    uint64_t refusal = card_refusal(card, card_len);
+    if (refusal != 0)
+        return refusal;
+    size_t n = card[0] + card[1];
+    if (strip_len < 1 || strip_len > LARGEST_STRIP)
+        return refused(6, 0);
+    if ((uint64_t)lost >= (uint64_t)1 << n)
+        return refused(8, 0);
+    return stripe_len == n * strip_len ? 0 : refused(7, 0);
 }
 
 #endif

@@ -98,16 +98,10 @@ static size_t put_contents(uint8_t *file, const uint8_t *card, size_t strip_len,
 static inline uint64_t reference_write(const uint8_t *card, size_t card_len, size_t strip_len, uint32_t lost, const uint8_t *stripe, size_t stripe_len,
                                 uint8_t *out, size_t out_len)
 {
-    uint64_t refusal = card_refusal(card, card_len);
+    uint64_t refusal = stripe_refusal(card, card_len, strip_len, lost, stripe_len);
     if (refusal != 0)
         return refusal;
     int n = card[0] + card[1];
-    if (strip_len < 1 || strip_len > LARGEST_STRIP)
-        return refused(6, 0);
-    if ((uint64_t)lost >= (uint64_t)1 << n)
-        return refused(8, 0);
-    if (stripe_len != (size_t)n * strip_len)
-        return refused(7, 0);
     if (out_len < record_length(card, strip_len, lost))
         return refused(16, 0);
     size_t at = put_contents(out, card, strip_len, lost);

@@ -76,14 +76,10 @@ static void know(const uint8_t *card, uint32_t lost)
 
 static uint64_t reference_encode(const uint8_t *card, size_t card_len, size_t strip_len, uint8_t *stripe, size_t stripe_len)
 {
-    uint64_t refusal = card_refusal(card, card_len);
+    uint64_t refusal = stripe_refusal(card, card_len, strip_len, 0, stripe_len);
     if (refusal != 0)
         return refusal;
     int k = card[0], m = card[1];
-    if (strip_len < 1 || strip_len > LARGEST_STRIP)
-        return refused(6, 0);
-    if (stripe_len != (size_t)(k + m) * strip_len)
-        return refused(7, 0);
     for (int j = 0; j < m; j++)
         for (size_t t = 0; t < strip_len; t++) {
             uint8_t sum = 0;
@@ -132,16 +128,10 @@ static void write_strip(uint8_t *strip, int disk, size_t strip_len, uint32_t (*c
 static uint64_t reference_rebuild(const uint8_t *card, size_t card_len, size_t strip_len, uint32_t lost, uint8_t *stripe, size_t stripe_len)
 {
     static uint32_t content[LARGEST_STRIP][8];
-    uint64_t refusal = card_refusal(card, card_len), restored = 0;
+    uint64_t refusal = stripe_refusal(card, card_len, strip_len, lost, stripe_len), restored = 0;
     if (refusal != 0)
         return refusal;
     int n = card[0] + card[1];
-    if (strip_len < 1 || strip_len > LARGEST_STRIP)
-        return refused(6, 0);
-    if ((uint64_t)lost >= (uint64_t)1 << n)
-        return refused(8, 0);
-    if (stripe_len != (size_t)n * strip_len)
-        return refused(7, 0);
     know(card, lost);
     if (known_fatal)
         return refused(11, 0);

@@ -14,7 +14,8 @@ use Rattle.flat.specs.Cards.{Code, codeOf, disks, setOk}
 use Rattle.flat.specs.Strips.{lengthOk}
 use Rattle.flat.specs.Records.{recordLength, lengthIn, bodyIn, markOk, entriesOk, cardEntryOk, lostIn, stripEntriesOk}
 use Rattle.flat.specs.Faults.{Report, accepted, refused, withRecord, recordWriteReport, recordReport, bodyReport}
-use Rattle.flat.proofs.Entries.{length-in, body-place}
+use Rattle.flat.proofs.Lengths.{length-in}
+use Rattle.flat.proofs.Entries.{body-place}
 use Rattle.codes.specs.Coded.{value}
 use Rattle.bounds.proofs.Values.{pick, with-value}
 

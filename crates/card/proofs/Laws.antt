@@ -1,6 +1,6 @@
 -- The report of a code and of a card at each way out of the tests, what a refusal leaves, and what the code's shift and slice give.
 -- Assumes nothing.
-use mathlib.Core.Path.{_≡_, sym, ap, _∙_}
+use mathlib.Core.Path.{_≡_, refl, sym, ap, _∙_}
 use mathlib.Core.Bool.{Bool, true, false}
 use mathlib.Core.List.{List, [], _∷_}
 use Prim.Native.Nat.{ℕ, _+_, _-_, _*_, _%_, _^_, _≤_, _<_}
@@ -76,6 +76,14 @@ module _ {A : Type 0} where
   unless-fault ParityCount r new old e = unless-refused r _ _ new old (sym e)
   unless-fault Length r new old e = unless-refused r _ _ new old (sym e)
   unless-fault (Column j) r new old e = unless-refused r _ _ new old (sym e)
+
+-- a fault's number is not 0
+pub fault-refuses : (f : CardFault) → eqb (faultReport f .number) 0 ≡ false
+fault-refuses Short = refl
+fault-refuses DataCount = refl
+fault-refuses ParityCount = refl
+fault-refuses Length = refl
+fault-refuses (Column j) = refl
 
 -- a refused card has no columns
 pub columns-refused : (card : List ℕ) (f : CardFault) → faultReport f ≡ cardReport card → replicate 16 0 ≡ cardColumns card

@@ -14,6 +14,7 @@ ghost use Rattle.gf2.specs.Sets.{has, over};
 ghost use Rattle.flat.specs.Lists.{tabulate};
 ghost use Rattle.flat.specs.Strips.{byteOf};
 ghost use Rattle.flat.specs.Repairs.{filled};
+ghost use Rattle.dense.specs.Named.{named};
 
 // Copies 128 bytes of the slice from a place on into the local array.
 fn copy(local: &mut [u8; 4096], to: usize, s: &[u8], at: usize)
@@ -83,6 +84,7 @@ pub fn fill(s: &mut [u8], l: usize, n: usize, disks: usize, targets: u32, sets: 
 // the way to fill, and no more.
 pub fn is_dense(n: usize, disks: usize, targets: u32, sets: [u32; 32]) -> bool
     requires { ⌜ (n ≤ 32) × (disks ≤ 32) ⌝ }
+    ensures { λ r. ⌜ r ≡ leb (3 * n) (named targets sets disks) ⌝ }
 {
     let mut named = 0usize;
     for d in 0..disks {

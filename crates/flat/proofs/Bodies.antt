@@ -17,7 +17,7 @@ use Rattle.flat.specs.Cards.{disks, codeOf}
 use Rattle.flat.specs.Records.{bodyAt, bodyIn, lostIn}
 use Rattle.flat.specs.Faults.{Report, accepted, refused, recordReport, bodyReport, bodyPart}
 use Rattle.flat.proofs.Reports.{unless-accepted}
-use Rattle.flat.proofs.Entries.{length-in}
+use Rattle.flat.proofs.Lengths.{length-in}
 use Rattle.flat.proofs.Received.{Received, received, with-received, with-refused-record, body-there}
 
 -- a refused record has no bodies

@@ -6,23 +6,17 @@ use mathlib.Core.List.{List, [], _∷_}
 use Prim.Native.Nat.{ℕ, suc, _+_, _*_, _^_, _≤_, _<_}
 use native.Mathlib.Nat.{mul-le-mul-left, mul-le-mul-right}
 use native.Mathlib.Omega.{arith}
-use lib.Dec.{T, leb}
+use lib.Dec.{T}
 use lib.ListN.{length, getD, take, drop, length-append, length-drop}
 use lib.Seq.{length-take-le}
 use Rattle.gf2.specs.If.{if_then_else_}
 use Rattle.gf2.specs.Sets.{has}
-use Rattle.gf2.proofs.Tests.{true-T, and-out, not-in, leb-out}
+use Rattle.gf2.proofs.Tests.{not-in}
 use Rattle.flat.specs.Lists.{Bytes, count, bytes, number, field}
 use Rattle.flat.specs.Cards.{Code, disks, cardLength}
-use Rattle.flat.specs.Strips.{lengthOk}
 use Rattle.flat.specs.Records.{entryCount, bodiesAt, entry, bodyAt, recordLength, stripEntry}
 use Rattle.flat.proofs.Numbers.{length-bytes, number-bytes, bytes-number, bytes-part, count-le, count-below}
 use Rattle.flat.proofs.Standing.{Stands, stands-self, stands-whole, stands-take, take-stands, stands-join, stands-left, stands-right}
-
--- a strip's length that passed its test
-pub length-in : (L : ℕ) → lengthOk L ≡ true → (1 ≤ L) × (L ≤ 65536)
-unfolding lengthOk
-length-in L e = let p = and-out (leb 1 L) (leb L 65536) (true-T e) in (leb-out 1 L (p .0), leb-out L 65536 (p .1))
 
 -- ---- an entry's bytes
 

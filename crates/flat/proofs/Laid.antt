@@ -21,7 +21,8 @@ use Rattle.flat.proofs.RoundTrip.{length-card, code-back}
 use Rattle.flat.proofs.Quantifiers.{every-in, set-is}
 use Rattle.flat.proofs.Numbers.{same-in}
 use Rattle.flat.proofs.Standing.{stands-take}
-use Rattle.flat.proofs.Entries.{length-in, length-entry, length-strip-entry, field-stands, entry-offset, entry-length}
+use Rattle.flat.proofs.Lengths.{length-in}
+use Rattle.flat.proofs.Entries.{length-entry, length-strip-entry, field-stands, entry-offset, entry-length}
 use Rattle.flat.proofs.Received.{Passed, with-passed}
 use Rattle.flat.proofs.Parts.{Laid}
 

@@ -1,5 +1,6 @@
 pub mod Lists
 pub mod Reports
+pub mod Lengths
 pub mod Cards
 pub mod RoundTrip
 pub mod Numbers

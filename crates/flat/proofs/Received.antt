@@ -21,7 +21,8 @@ use Rattle.flat.proofs.Reports.{passed, with-accepted, with-out}
 use Rattle.flat.proofs.Cards.{accepted-card, card-accepted, count-in}
 use Rattle.flat.proofs.Quantifiers.{every-out, set-lt}
 use Rattle.flat.proofs.Numbers.{same-out}
-use Rattle.flat.proofs.Entries.{length-in, entry-offset, entry-length, body-place, body-inside}
+use Rattle.flat.proofs.Lengths.{length-in}
+use Rattle.flat.proofs.Entries.{entry-offset, entry-length, body-place, body-inside}
 
 -- ---- the tests that a record passes
 

@@ -25,6 +25,11 @@ pub passed-number : (b : Bool) (n : ℕ) (vs : List ℕ) (rest : Report) → (if
 passed-number true n vs rest e = absurd (omega arith)
 passed-number false n vs rest e = refl
 
+pub passed-test : (b : Bool) (n : ℕ) (vs : List ℕ) (rest : Report) → (if b then refused (suc n) vs else rest) .number ≡ 0
+    → (b ≡ false) × (rest .number ≡ 0)
+passed-test true n vs rest e = absurd (omega arith)
+passed-test false n vs rest e = (refl, e)
+
 module _ {A : Type 0} where
   pub unless-accepted : (r : Report) (ws : List ℕ) (new old : A) → r ≡ accepted ws → unlessRefused r new old ≡ new
   unfolding unlessRefused
@@ -37,6 +42,15 @@ module _ {A : Type 0} where
   pub unless-refused : (r : Report) (n : ℕ) (vs : List ℕ) (new old : A) → r ≡ refused (suc n) vs → unlessRefused r new old ≡ old
   unfolding unlessRefused
   unless-refused r n vs new old e = rw (e, eqb·suc-zero)
+
+  -- where the code has tested the number
+  pub unless-zero : (r : Report) (new old : A) → eqb (r .number) 0 ≡ true → new ≡ unlessRefused r new old
+  unfolding unlessRefused
+  unless-zero r new old e = ap (λ (b : Bool). if b then new else old) (sym e)
+
+  pub unless-other : (r : Report) (new old : A) → eqb (r .number) 0 ≡ false → old ≡ unlessRefused r new old
+  unfolding unlessRefused
+  unless-other r new old e = ap (λ (b : Bool). if b then new else old) (sym e)
 
 -- an accepted card's code is what the call works on, and a refused card's refusal is the call's
 pub with-accepted : (card : List ℕ) (ws : List ℕ) (f : Code → Report) → cardReport card ≡ accepted ws → withCard card f ≡ f (codeOf card)

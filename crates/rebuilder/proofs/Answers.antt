@@ -7,11 +7,11 @@ use mathlib.Core.List.{List, [], _∷_}
 use Prim.Native.Nat.{ℕ, suc, _+_, _*_, _^_, _≤_, _<_}
 use native.Mathlib.Omega.{arith}
 use borrow.Author.Tests.{not-false}
-use lib.Dec.{T, eqb, ltb, leb}
+use lib.Dec.{T, eqb, ltb}
 use lib.ListN.{length, drop}
 use Rattle.gf2.specs.If.{if_then_else_}
 use Rattle.gf2.specs.Sets.{size}
-use Rattle.gf2.proofs.Tests.{true-T, false-T, T-true, T-false, and-out, eqb-in, eqb-out, ltb-out, leb-out}
+use Rattle.gf2.proofs.Tests.{true-T, false-T, T-true, T-false, eqb-in, eqb-out, ltb-out}
 use Rattle.flat.specs.Lists.{Bytes}
 use Rattle.flat.specs.Cards.{Code, code, codeOf, disks, setOk, columnsIn}
 use Rattle.flat.specs.Strips.{lengthOk}
@@ -19,21 +19,16 @@ use Rattle.flat.specs.Erasures.{fatal}
 use Rattle.flat.specs.Rebuilding.{agreeing, restored}
 use Rattle.flat.specs.Repairs.{consistent}
 use Rattle.flat.specs.Faults.{Report, accepted, refused, unlessRefused, cardReport, survivorsReport, rebuildReport, rebuildStripe}
+use Rattle.flat.proofs.Reports.{passed-test}
+use Rattle.flat.proofs.Lengths.{length-in}
 use Rattle.flat.proofs.Agreement.{agreeing-cases}
 use Rattle.flat.proofs.Theorems.{consistent-agrees}
 use Rattle.card.specs.declared.CardFault.{CardFault}
-use Rattle.card.specs.declared.CardFault.the-variants.{Short, DataCount, ParityCount, Length, Column}
 use Rattle.card.specs.declared.CardCheck.the-variants.{Bad}
 use Rattle.card.specs.Reports.{faultReport, checkReport}
 use Rattle.card.proofs.Laws.{unless-fault}
 use Rattle.card.proofs.Callers.{GoodCard, good-with, bad-card}
 use Rattle.rebuilder.specs.Tests.{tested}
-
--- L is 1 to 65,536
-pub length-in : (L : ℕ) → lengthOk L ≡ true → (1 ≤ L) × (L ≤ 65536)
-unfolding lengthOk
-length-in L e =
-    let p = and-out (leb 1 L) (leb L 65536) (true-T e) in (leb-out 1 L (p .0), leb-out L 65536 (p .1))
 
 -- ---- the survivors' report
 
@@ -99,18 +94,6 @@ module _ (k m : ℕ) (columns : List ℕ) (L S : ℕ) (stripe : List ℕ) where
 
 -- ---- what an accepted answer tells
 
--- a fault's number is not 0
-pub fault-refuses : (f : CardFault) → eqb (faultReport f .number) 0 ≡ false
-fault-refuses Short = refl
-fault-refuses DataCount = refl
-fault-refuses ParityCount = refl
-fault-refuses Length = refl
-fault-refuses (Column j) = refl
-
-passed : (b : Bool) (n : ℕ) (next : Report) → (if b then refused (suc n) [] else next) .number ≡ 0 → (b ≡ false) × (next .number ≡ 0)
-passed true n next e = absurd (omega arith)
-passed false n next e = (refl, e)
-
 -- an accepted call: what `restore` requires, and that some content agrees
 pub record Passed (k m : ℕ) (columns : List ℕ) (L S : ℕ) (stripe : List ℕ) : Type 0 where
   pub long : 1 ≤ L
@@ -123,10 +106,10 @@ pub accepted-passed : (k m : ℕ) (columns : List ℕ) (L S : ℕ) (stripe : Lis
     → Passed k m columns L S stripe
 unfolding tested setOk disks survivorsReport
 accepted-passed k m columns L S stripe e =
-    let a = passed (not (lengthOk L)) 5 _ e in
-    let b = passed (not (ltb S (2 ^ (k + m)))) 7 _ (a .1) in
-    let c = passed (not (eqb (length stripe) ((k + m) * L))) 6 _ (b .1) in
-    let d = passed (fatal (code k m columns) S) 10 _ (c .1) in
+    let a = passed-test (not (lengthOk L)) 5 [] _ e in
+    let b = passed-test (not (ltb S (2 ^ (k + m)))) 7 [] _ (a .1) in
+    let c = passed-test (not (eqb (length stripe) ((k + m) * L))) 6 [] _ (b .1) in
+    let d = passed-test (fatal (code k m columns) S) 10 [] _ (c .1) in
     record {
       long = length-in L (not-false _ (a .0)) .0;
       inside = ltb-out S (2 ^ (k + m)) (true-T {b = ltb S (2 ^ (k + m))} (not-false _ (b .0)));
@@ -140,15 +123,6 @@ pub zero-passed : (k m : ℕ) (columns : List ℕ) (L S : ℕ) (stripe : List �
     → eqb (r .number) 0 ≡ true → Passed k m columns L S stripe
 zero-passed k m columns L S stripe r e z =
     accepted-passed k m columns L S stripe (sym (ap (λ (x : Report). x .number) e) ∙ eqb-out (r .number) 0 (true-T {b = eqb (r .number) 0} z))
-
--- what is left in the stripe
-pub unless-zero : (r : Report) (new old : List ℕ) → eqb (r .number) 0 ≡ true → new ≡ unlessRefused r new old
-unfolding unlessRefused
-unless-zero r new old e = ap (λ (b : Bool). if b then new else old) (sym e)
-
-pub unless-other : (r : Report) (new old : List ℕ) → eqb (r .number) 0 ≡ false → old ≡ unlessRefused r new old
-unfolding unlessRefused
-unless-other r new old e = ap (λ (b : Bool). if b then new else old) (sym e)
 
 -- ---- a good card and a bad one
 

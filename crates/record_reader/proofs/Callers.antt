@@ -12,7 +12,7 @@ use Rattle.flat.specs.Records.{entryCount, bodiesAt, bodyAt, recordLength, offs
 use Rattle.flat.specs.Faults.{Report, accepted, unlessRefused, cardReport, cardColumns, withRecord, recordReport, recordColumns}
 use Rattle.flat.proofs.Reports.{unless-accepted, unless-refused}
 use Rattle.flat.proofs.Cards.{accepted-card, count-in}
-use Rattle.flat.proofs.Entries.{length-in}
+use Rattle.flat.proofs.Lengths.{length-in}
 use Rattle.flat.proofs.Received.{Received, received, with-refused-record}
 use Rattle.card.specs.declared.CardFault.the-variants as card
 use Rattle.card.proofs.Laws.{unless-fault}

@@ -17,12 +17,13 @@ use Rattle.flat.specs.Cards.{Code, code, codeOf, disks, setOk, columnsIn}
 use Rattle.flat.specs.Strips.{lengthOk}
 use Rattle.flat.specs.Records.{recordLength, recordBytes}
 use Rattle.flat.specs.Faults.{Report, accepted, refused, unlessRefused, cardReport, recordWriteReport, recordWriteOutput}
+use Rattle.flat.proofs.Reports.{passed-test, unless-other}
 use Rattle.card.specs.declared.CardFault.{CardFault}
 use Rattle.card.specs.declared.CardCheck.the-variants.{Bad}
 use Rattle.card.specs.Reports.{faultReport, checkReport}
 use Rattle.card.proofs.Laws.{unless-fault}
 use Rattle.card.proofs.Callers.{GoodCard, good-with, bad-card}
-use Rattle.strips.proofs.Lengths.{length-in}
+use Rattle.flat.proofs.Lengths.{length-in}
 use Rattle.copies.specs.Put.{put}
 use Rattle.contents.specs.Places.{stripsAt, bodyFrom}
 use Rattle.record_writer.specs.Layout.{recordFrom}
@@ -60,31 +61,18 @@ module _ (k m L S n p : ℕ) where
 
 -- ---- what an accepted answer tells
 
--- a fault's number is not 0
-pub fault-refuses : (f : CardFault) → eqb (faultReport f .number) 0 ≡ false
-unfolding unlessRefused
-fault-refuses f = same-test (eqb (faultReport f .number) 0) ∙ unless-fault f (faultReport f) true false refl
-  where
-    same-test : (b : Bool) → b ≡ (if b then true else false)
-    same-test true = refl
-    same-test false = refl
-
 pub record Passed (k m L S n p : ℕ) : Type 0 where
   pub length : (1 ≤ L) × (L ≤ 65536)
   pub size : n ≡ (k + m) * L
   pub room : bodyFrom (stripsAt (k + m) m) L S (k + m) ≤ p
 
-passed : (b : Bool) (n : ℕ) (next : Report) → (if b then refused (suc n) [] else next) .number ≡ 0 → (b ≡ false) × (next .number ≡ 0)
-passed true n next e = absurd (omega arith)
-passed false n next e = (refl, e)
-
 accepted-passed : (k m L S n p : ℕ) → written (code k m []) L S n p .number ≡ 0 → Passed k m L S n p
 unfolding written setOk disks
 accepted-passed k m L S n p e =
-    let a = passed (not (lengthOk L)) 5 _ e in
-    let b = passed (not (ltb S (2 ^ (k + m)))) 7 _ (a .1) in
-    let c = passed (not (eqb n ((k + m) * L))) 6 _ (b .1) in
-    let d = passed (ltb p (recordLength (code k m []) L S)) 15 _ (c .1) in
+    let a = passed-test (not (lengthOk L)) 5 [] _ e in
+    let b = passed-test (not (ltb S (2 ^ (k + m)))) 7 [] _ (a .1) in
+    let c = passed-test (not (eqb n ((k + m) * L))) 6 [] _ (b .1) in
+    let d = passed-test (ltb p (recordLength (code k m []) L S)) 15 [] _ (c .1) in
     record {
       length = length-in L (not-false _ (a .0));
       size = eqb-out n ((k + m) * L) (true-T {b = eqb n ((k + m) * L)} (not-false _ (c .0)));
@@ -94,15 +82,6 @@ accepted-passed k m L S n p e =
 pub zero-passed : (k m L S n p : ℕ) (r : Report) → r ≡ written (code k m []) L S n p → eqb (r .number) 0 ≡ true → Passed k m L S n p
 zero-passed k m L S n p r e z =
     accepted-passed k m L S n p (sym (ap (λ (x : Report). x .number) e) ∙ eqb-out (r .number) 0 (true-T {b = eqb (r .number) 0} z))
-
--- what is left in the output
-pub unless-zero : (r : Report) (new old : List ℕ) → eqb (r .number) 0 ≡ true → new ≡ unlessRefused r new old
-unfolding unlessRefused
-unless-zero r new old e = ap (λ (b : Bool). if b then new else old) (sym e)
-
-pub unless-other : (r : Report) (new old : List ℕ) → eqb (r .number) 0 ≡ false → old ≡ unlessRefused r new old
-unfolding unlessRefused
-unless-other r new old e = ap (λ (b : Bool). if b then new else old) (sym e)
 
 -- ---- a good card and a bad one
 

@@ -9,7 +9,7 @@ use Rattle.flat.specs.Strips.{lengthOk}
 use Rattle.card.specs.Reports.{checkReport}
 use Rattle.card.proofs.Laws.{rest}
 use Rattle.card.proofs.Callers.{GoodCard, good}
-use Rattle.strips.proofs.Lengths.{length-in, stripe-small}
+use Rattle.flat.proofs.Lengths.{length-in, stripe-small}
 use Rattle.encoder.proofs.Answered.{stripe-kept, bad-report, bad-stripe, long-report, other-report, good-report, good-stripe}
 use borrow.Author.Needs.{needs}
 use Rattle.encoder.proofs.encode.Statement.{statement}

@@ -6,7 +6,7 @@ use borrow.Author.Needs.{needs}
 use lib.Dec.{eqb}
 use Rattle.rebuilder.specs.declared.Rebuilt.{Rebuilt}
 use Rattle.rebuilder.specs.Reports.{rebuiltReport}
-use Rattle.rebuilder.proofs.Answers.{fault-refuses}
+use Rattle.card.proofs.Laws.{fault-refuses}
 use Rattle.rebuilder.proofs.accepts.Statement.{statement}
 use Rattle.rebuilder.proofs.accepts.Tie as tie
 

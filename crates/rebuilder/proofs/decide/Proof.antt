@@ -4,7 +4,6 @@ use mathlib.Core.Path.{_≡_, sym, ap, _∙_}
 use mathlib.Core.Bool.{true}
 use mathlib.Core.List.{[], _∷_}
 use Prim.Native.Nat.{ℕ, _+_, _^_, _≤_}
-use native.Mathlib.Nat.{mul-le-mul-right}
 use native.Mathlib.Omega.{arith}
 use borrow.Author.Needs.{needs}
 use borrow.Author.Tests.{not-true, not-false}
@@ -16,8 +15,9 @@ use Rattle.flat.specs.Strips.{lengthOk}
 use Rattle.flat.specs.Erasures.{fatal}
 use Rattle.flat.specs.Repairs.{consistent}
 use Rattle.flat.specs.Faults.{accepted}
+use Rattle.flat.proofs.Lengths.{length-in, stripe-small}
 use Rattle.repairs.proofs.Callers.{undetermined-fatal, vanish-consistent}
-use Rattle.rebuilder.proofs.Answers.{length-in, tested-length, tested-set, tested-stripe, tested-fatal, tested-none, tested-some}
+use Rattle.rebuilder.proofs.Answers.{tested-length, tested-set, tested-stripe, tested-fatal, tested-none, tested-some}
 use Rattle.rebuilder.proofs.decide.Statement.{statement}
 use Rattle.rebuilder.proofs.decide.Tie as tie
 
@@ -53,7 +53,8 @@ good-set c = sym (c .before .below .ensures) ∙ not-false _ (c .if2 .left)
 mul-if3 : tie.Need-mul-if3
 mul-if3 c =
     let a = start c in
-    omega (arith, length-in _ (good-length (c .before .before)), mul-le-mul-right (a .args .l) (let h : a .args .k + a .args .m ≤ 32 = omega (arith, a .pre .0) in h))
+    let few : a .args .k + a .args .m ≤ 32 = omega (arith, a .pre .0) in
+    omega (arith, stripe-small (a .args .k + a .args .m) (a .args .l) few (length-in _ (good-length (c .before .before)) .1))
 
 returns-3 : tie.Need-returns-3
 returns-3 c = tested-stripe _ _ _ _ _ _ (good-length (c .before .before .before)) (good-set (c .before)) (c .if3 .taken)

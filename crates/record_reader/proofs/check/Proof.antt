@@ -14,7 +14,7 @@ use Rattle.flat.specs.Strips.{lengthOk}
 use Rattle.flat.specs.Faults.{cardReport}
 use Rattle.card.specs.Reports.{checkReport}
 use Rattle.card.proofs.Callers.{GoodCard, good}
-use Rattle.strips.proofs.Lengths.{length-in}
+use Rattle.flat.proofs.Lengths.{length-in}
 use Rattle.record_reader.specs.Tests.{stripsReport}
 use Rattle.record_reader.proofs.Heads.{ten-bytes, entries-in, card-in, card-part, length-at, entries-at}
 use Rattle.record_reader.proofs.Answers.{Listed, bad-mark, bad-length, bad-entries, bad-card-entry, bad-body, bad-count, good-count}

@@ -5,7 +5,7 @@ use mathlib.Core.Bool.{Bool}
 use lib.Dec.{eqb}
 use Rattle.record_writer.specs.declared.RecordWritten.{RecordWritten}
 use Rattle.record_writer.specs.Reports.{writtenReport}
-use Rattle.record_writer.proofs.WriterAnswers.{fault-refuses}
+use Rattle.card.proofs.Laws.{fault-refuses}
 use borrow.Author.Needs.{needs}
 use Rattle.record_writer.proofs.accepts.Statement.{statement}
 use Rattle.record_writer.proofs.accepts.Tie as tie

@@ -7,7 +7,7 @@ use native.Mathlib.Omega.{arith}
 use borrow.Author.Tests.{not-true, not-false}
 use lib.Dec.{ltb}
 use Rattle.flat.specs.Strips.{lengthOk}
-use Rattle.strips.proofs.Lengths.{length-in, stripe-small}
+use Rattle.flat.proofs.Lengths.{length-in, stripe-small}
 use Rattle.contents.specs.Places.{stripsAt, bodyFrom}
 use Rattle.record_writer.proofs.WriterAnswers.{written-length, written-set, written-stripe, written-short, written-good}
 use borrow.Author.Needs.{needs}

@@ -1,0 +1,10 @@
+/* All benchmarks in one process. */
+#include "bench.h"
+
+int main(void)
+{
+    bench_lists();
+    bench_stripes();
+    bench_records();
+    return 0;
+}
