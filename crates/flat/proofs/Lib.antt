@@ -35,6 +35,4 @@ pub mod Solving
 pub mod Consistency
 pub mod Rebuilds
 pub mod Demanded
-pub mod WorkedStripes
-pub mod Worked
 pub mod Theorems

@@ -25,7 +25,6 @@ use Rattle.flat.proofs.Agreement as agreement
 use Rattle.flat.proofs.Consistency as consistency
 use Rattle.flat.proofs.Rebuilds as rebuilds
 use Rattle.flat.proofs.Demanded as demanded
-use Rattle.flat.proofs.Worked as worked
 
 pub card-reads-back : Theorems.CardReadsBack
 card-reads-back = round.reads-back
@@ -108,15 +107,6 @@ equation-listed = verdicts.equation-listed
 
 pub long-slices-accepted : Theorems.LongSlicesAccepted
 long-slices-accepted = verdicts.long-slices-accepted
-
-pub no-list-for-all : Theorems.NoListForAll
-no-list-for-all = worked.no-list-for-all
-
-pub rows-are-not-all : Theorems.RowsAreNotAll
-rows-are-not-all = worked.rows-are-not-all
-
-pub order-not-turned : Theorems.OrderNotTurned
-order-not-turned = worked.order-not-turned
 
 -- ---- rebuilding
 

@@ -7,7 +7,6 @@ pub mod Rebuilding
 pub mod Alike
 pub mod Records
 pub mod Faults
-pub mod Worked
 pub mod Spans
 pub mod Repairs
 pub mod Theorems

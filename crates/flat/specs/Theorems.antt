@@ -2,19 +2,18 @@
 -- Assumes nothing.
 use mathlib.Core.Path.{_≡_}
 use mathlib.Core.Logic.{_⊎_, _≢_, _↔_}
-use mathlib.Core.List.{List, [], _∷_, reverse}
-use Prim.Native.Nat.{ℕ, suc, _+_, _^_, _≤_, _<_}
+use mathlib.Core.List.{List, [], _∷_}
+use Prim.Native.Nat.{ℕ, _+_, _^_, _≤_, _<_}
 use lib.Dec.{T}
 use lib.ListN.{length, getD, take}
 use Rattle.gf2.specs.Sets.{has, size, _⊕_, _⊆_, union, over}
 use Rattle.gf2.specs.Span.{InSpan, Independent}
 use Rattle.gf2.specs.Within.{within}
-use Rattle.flat.specs.Lists.{Bytes, setOf, member, padded, orderedBy}
+use Rattle.flat.specs.Lists.{Bytes, setOf, member, padded}
 use Rattle.flat.specs.Cards.{Code, code, codeOf, disks, setOk, dataPart}
 use Rattle.flat.specs.Erasures.{holdsBit, survivors, fatal, minimalErasure, erasures}
 use Rattle.flat.specs.Equations.{equation, minimalEquation, equations}
 use Rattle.flat.specs.Faults.{accepted, cardReport, cardColumns, cardWriteReport, cardWriteBuffer, verdictReport, erasuresReport, erasuresSlice, equationsReport, equationsSlice}
-use Rattle.flat.specs.Worked.{C1}
 use Rattle.flat.specs.Spans.{codeword, rows, checks, undetermined, erasuresByWord, equationsByParities}
 
 -- ---- cards (demand 2)
@@ -180,17 +179,3 @@ LongSlicesAccepted =
     let qs = equations (codeOf card) d in
     (length es ≤ n → erasuresReport card n ≡ accepted (length es ∷ []))
     × (d < disks (codeOf card) → length qs ≤ n → equationsReport card d n ≡ accepted (length qs ∷ []))
-
--- ---- impostors that no edit of the code can show
-
--- No list is that of every code.
-abbrev pub NoListForAll : Type 0
-NoListForAll = (list : List ℕ) → ((C : Code) → erasures C ≡ list) → ⊥
-
--- The single rows are not the list: C1 has more.
-abbrev pub RowsAreNotAll : Type 0
-RowsAreNotAll = erasures (C1 .of) ≢ orderedBy size (suc (disks (C1 .of))) (rows (C1 .of))
-
--- Larger parity part first is not the order: the equations of C1's disk 0 have three disks each, and the list turned round is another.
-abbrev pub OrderNotTurned : Type 0
-OrderNotTurned = equations (C1 .of) 0 ≢ reverse (equations (C1 .of) 0)

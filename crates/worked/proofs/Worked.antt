@@ -1,4 +1,4 @@
--- The worked codes of document 01: antt computes the definitions at the table's constants. For C8 and C9 see WorkedStripes.
+-- The worked codes of document 01: antt computes the definitions at the table's constants. For C8 and C9 see Stripes.
 -- Assumes nothing.
 use mathlib.Core.Path.{_≡_, refl, sym, ap, _∙_}
 use mathlib.Core.List.{List, reverse}
@@ -6,15 +6,15 @@ use Prim.Native.Nat.{ℕ, suc}
 use native.Mathlib.Omega.{arith}
 use lib.ListN.{length, getD}
 use Rattle.gf2.specs.Sets.{size}
 use Rattle.flat.specs.Lists.{member, orderedBy}
 use Rattle.flat.specs.Cards.{cardBytes, disks}
 use Rattle.flat.specs.Erasures.{fatal, erasures, vector}
 use Rattle.flat.specs.Equations.{equations}
 use Rattle.flat.specs.Faults.{cardReport, encodeStripe, erasuresReport, rebuildReport}
 use Rattle.flat.specs.Spans.{rows}
-use Rattle.flat.specs.Worked.{Worked, C1, C2, C3, C4}
-use Rattle.flat.specs.Theorems.{NoListForAll, RowsAreNotAll, OrderNotTurned}
-use Rattle.flat.proofs.WorkedStripes.{c8-answer, c8-stripe, c9-answer}
+use Rattle.worked.specs.Worked.{Worked, C1, C2, C3, C4}
+use Rattle.worked.specs.Impostors.{NoListForAll, RowsAreNotAll, OrderNotTurned}
+use Rattle.worked.proofs.Stripes.{c8-answer, c8-stripe, c9-answer}
 
 pub worked : Worked
 unfolding erasures vector fatal member equations cardBytes encodeStripe rebuildReport cardReport erasuresReport

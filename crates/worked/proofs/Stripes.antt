@@ -7,19 +7,19 @@ use native.Mathlib.Omega.{arith}
 use lib.Dec.{T}
 use lib.ListN.{length}
 use Rattle.gf2.specs.Sets.{size}
 use Rattle.flat.specs.Lists.{Bytes}
 use Rattle.flat.specs.Cards.{cardBytes, codeOf, disks, setOk}
 use Rattle.flat.specs.Strips.{lengthOk}
 use Rattle.flat.specs.Erasures.{fatal}
 use Rattle.flat.specs.Rebuilding.{agrees, agreeing, restored}
 use Rattle.flat.specs.Repairs.{filled, consistent, equationAmong}
 use Rattle.flat.specs.Faults.{accepted, refused, cardReport, rebuildReport, rebuildStripe}
-use Rattle.flat.specs.Worked.{C1, C7, C8}
+use Rattle.worked.specs.Worked.{C1, C7, C8}
 use Rattle.flat.specs.Demand3.{Agreeing, RightRebuild}
 use Rattle.flat.proofs.Reports.{unless-accepted}
 use Rattle.flat.proofs.Agreement.{some-agreeing, restored-filled}
 use Rattle.flat.proofs.Consistency.{agreeing-consistent}
 use Rattle.flat.proofs.Demanded.{right-rebuild}
 
 abbrev card : List ℕ
 card = cardBytes (C1 .of)

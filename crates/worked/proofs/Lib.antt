@@ -1,0 +1,2 @@
+pub mod Stripes
+pub mod Worked
