@@ -27,7 +27,7 @@ use Rattle.flat.proofs.Rows.{rows-length, checks-length}
 use Rattle.flat.proofs.Cards.{count-in}
 use Rattle.flat.proofs.ErasuresListed.{erasures-enumerated}
 use Rattle.flat.proofs.EquationsListed.{equations-enumerated}
-use Rattle.lists.proofs.Filters.{filter-length, length-range}
+use Rattle.marks.proofs.Filters.{filter-length, length-range}
 use Rattle.codes.specs.Coded.{value}
 
 -- ---- how long a list is

@@ -23,9 +23,9 @@ use Rattle.flat.proofs.CheckWords.{less-lt}
 use Rattle.flat.proofs.Members.{In, map-out}
 use Rattle.flat.proofs.EquationsListed.{equations-enumerated}
 use Rattle.words.specs.Listed.{kept, entry, keptFrom, entries, listed}
-use Rattle.lists.proofs.Filters.{filter-cong, filter-both}
-use Rattle.lists.proofs.Blocks.{ordered-same}
-use Rattle.lists.proofs.Entries.{entries-small}
+use Rattle.marks.proofs.Filters.{filter-cong, filter-both}
+use Rattle.marks.proofs.Blocks.{ordered-same}
+use Rattle.marks.proofs.Entries.{entries-small}
 use Rattle.bases.proofs.Systematic.{checks-systematic}
 
 module _ (C : Code) (d : ℕ) where

@@ -34,7 +34,7 @@ fn list_columns(columns: &[u8], k: usize, m: usize, disk: usize, out: &mut [u32]
     let basis = bases::checks(columns, k, m);
     let set = 1u32 << disk;
     let mut marks = [0u64; 1024];
-    let count = lists::total(lists::mark(basis, k + m, set, &mut marks));
+    let count = marks::total(marks::mark(basis, k + m, set, &mut marks));
     if out.len() < count {
         return Told::Short(count);
     }

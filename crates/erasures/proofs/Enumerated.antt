@@ -23,9 +23,9 @@ use Rattle.flat.proofs.Least.{selectors-out}
 use Rattle.flat.proofs.Members.{In, map-out}
 use Rattle.flat.proofs.ErasuresListed.{erasures-enumerated}
 use Rattle.words.specs.Listed.{kept, entry, keptFrom, entries, listed, tally}
-use Rattle.lists.proofs.Filters.{filter-cong, map-cong}
-use Rattle.lists.proofs.Blocks.{ordered-same, ordered-count}
-use Rattle.lists.proofs.Entries.{kept-inside, entries-small}
+use Rattle.marks.proofs.Filters.{filter-cong, map-cong}
+use Rattle.marks.proofs.Blocks.{ordered-same, ordered-count}
+use Rattle.marks.proofs.Entries.{kept-inside, entries-small}
 use Rattle.bases.proofs.Systematic.{rows-systematic}
 
 module _ (C : Code) where

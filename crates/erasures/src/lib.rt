@@ -85,8 +85,8 @@ fn list_columns(columns: &[u8], k: usize, m: usize, out: &mut [u32]) -> Listing
 {
     let basis = bases::rows(columns, k, m);
     let mut marks = [0u64; 1024];
-    let counts = lists::mark(basis, k + m, 0, &mut marks);
-    let count = lists::total(counts);
+    let counts = marks::mark(basis, k + m, 0, &mut marks);
+    let count = marks::total(counts);
     if out.len() < count {
         return Listing {
             answer: Listed::Short(count),
@@ -122,5 +122,5 @@ pub fn count_columns(columns: &[u8], k: usize, m: usize) -> [usize; 17]
 {
     let basis = bases::rows(columns, k, m);
     let mut marks = [0u64; 1024];
-    vector(lists::mark(basis, k + m, 0, &mut marks), m)
+    vector(marks::mark(basis, k + m, 0, &mut marks), m)
 }

@@ -1,7 +1,1 @@
-pub mod Marks
-pub mod Filters
-pub mod Blocks
-pub mod Entries
-pub mod Counting
-pub mod Passes
 pub mod Writing

@@ -15,9 +15,9 @@ use Rattle.flat.specs.Spans.{checks}
 use Rattle.flat.proofs.Rows.{checks-length}
 use Rattle.flat.proofs.Reports.{list-short, list-fits}
 use Rattle.words.specs.Listed.{listed, tally}
-use Rattle.lists.specs.Marks.{noMarks}
-use Rattle.lists.specs.Sizes.{sum}
-use Rattle.lists.proofs.Passes.{tally-small, tally-total}
+use Rattle.marks.specs.Marks.{noMarks}
+use Rattle.marks.specs.Sums.{sum}
+use Rattle.marks.proofs.Passes.{tally-small, tally-total}
 use Rattle.bases.proofs.Systematic.{taken}
 use Rattle.equations.proofs.Enumerated.{listed-equations}
 use Rattle.equations.proofs.Laws.{checks-markable}

@@ -10,7 +10,7 @@ use Rattle.flat.specs.Lists.{padded, tabulate}
 use Rattle.flat.specs.Cards.{Code, code, columnsIn}
 use Rattle.flat.specs.Spans.{rows}
 use Rattle.words.specs.Listed.{tally}
-use Rattle.lists.specs.Marks.{noMarks}
+use Rattle.marks.specs.Marks.{noMarks}
 use Rattle.erasures.proofs.Enumerated.{vector-tally}
 use Rattle.erasures.proofs.Laws.{taken-rows, rows-markable}
 use Rattle.erasures.proofs.count_columns.Statement.{statement}

@@ -15,9 +15,9 @@ use Rattle.flat.specs.Spans.{rows}
 use Rattle.flat.proofs.Rows.{rows-length}
 use Rattle.flat.proofs.Reports.{list-short, list-fits}
 use Rattle.words.specs.Listed.{listed, tally}
-use Rattle.lists.specs.Marks.{noMarks}
-use Rattle.lists.specs.Sizes.{sum}
-use Rattle.lists.proofs.Passes.{tally-small, tally-total}
+use Rattle.marks.specs.Marks.{noMarks}
+use Rattle.marks.specs.Sums.{sum}
+use Rattle.marks.proofs.Passes.{tally-small, tally-total}
 use Rattle.erasures.proofs.Enumerated.{listed-erasures, vector-tally}
 use Rattle.erasures.proofs.Laws.{taken-rows, rows-markable}
 use Rattle.erasures.proofs.list_columns.Statement.{statement}
