@@ -35,7 +35,7 @@ pub extern "C" fn bridgecrumb_encode(card: &[u8], l: usize, stripe: &mut [u8]) -
 pub extern "C" fn bridgecrumb_verdict(card: &[u8], set: u32) -> u64
     ensures { λ r. ⌜ r ≡ coded (verdictReport (now (card .entry)) set) ⌝ }
 {
-    verdict_code(erasures::verdict(card, set))
+    verdict_code(verdicts::verdict(card, set))
 }
 
 // The lister: all minimal erasures into the slice, smaller size first, then smaller data part, and how

@@ -7,7 +7,7 @@ ghost use mathlib.Core.Path.{_≡_};
 ghost use Prim.Native.Nat.{_+_, _*_, _<_};
 ghost use Rattle.card.specs.Reports.{faultReport};
 ghost use Rattle.card_writer.specs.Reports.{writtenReport};
-ghost use Rattle.erasures.specs.Reports.{verdictReport};
+ghost use Rattle.verdicts.specs.Reports.{verdictReport};
 ghost use Rattle.likeness.specs.Reports.{alikeReport};
 ghost use Rattle.equations.specs.Reports.{toldReport};
 ghost use Rattle.encoder.specs.Reports.{encodedReport};
@@ -17,9 +17,9 @@ use card::CardFault;
 use card_writer::CardWritten;
 use encoder::Encoded;
 use equations::Told;
-use erasures::SetVerdict;
 use likeness::Likeness;
 use rebuilder::Rebuilt;
+use verdicts::SetVerdict;
 
 mod records;
 

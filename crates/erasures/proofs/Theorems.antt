@@ -1,4 +1,4 @@
--- A report tells the answer that gave it: each answer is computed back from its report.
+-- A report tells the answer that gave it: the answer is computed back from its report.
 -- Assumes nothing.
 use mathlib.Core.Path.{_≡_, refl, sym, ap, _∙_}
 use lib.Dec.{eqb}
@@ -6,23 +6,10 @@ use lib.ListN.{getD}
 use Rattle.gf2.specs.If.{if_then_else_}
 use Rattle.flat.specs.Faults.{Report}
 use Rattle.card.proofs.Theorems.{carried, carried-back}
-use Rattle.erasures.specs.declared.SetVerdict.{SetVerdict}
-use Rattle.erasures.specs.declared.SetVerdict.the-variants as verdict
 use Rattle.erasures.specs.declared.Listed.{Listed}
 use Rattle.erasures.specs.declared.Listed.the-variants as listed
-use Rattle.erasures.specs.Reports.{verdictReport, listedReport}
-use Rattle.erasures.specs.Theorems.{VerdictInjective, ListedInjective}
-
-abbrev verdictFrom : Report → SetVerdict
-verdictFrom r =
-    carried r verdict.Card
-    (if eqb (r .number) 8 then verdict.OutsideSet else if eqb (getD (r .values) 0 0) 1 then verdict.Fatal else verdict.Recoverable)
-
-verdict-back : (a : SetVerdict) → verdictFrom (verdictReport a) ≡ a
-verdict-back verdict.Fatal = refl
-verdict-back verdict.Recoverable = refl
-verdict-back (verdict.Card f) = carried-back f verdict.Card _
-verdict-back verdict.OutsideSet = refl
+use Rattle.erasures.specs.Reports.{listedReport}
+use Rattle.erasures.specs.Theorems.{ListedInjective}
 
 abbrev listedFrom : Report → Listed
 listedFrom r =
@@ -32,9 +19,6 @@ listed-back : (a : Listed) → listedFrom (listedReport a) ≡ a
 listed-back (listed.Count n) = refl
 listed-back (listed.Card f) = carried-back f listed.Card _
 listed-back (listed.Short n) = refl
-
-pub verdict-injective : VerdictInjective
-verdict-injective a b e = sym (verdict-back a) ∙ ap verdictFrom e ∙ verdict-back b
 
 pub listed-injective : ListedInjective
 listed-injective a b e = sym (listed-back a) ∙ ap listedFrom e ∙ listed-back b

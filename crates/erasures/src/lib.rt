@@ -1,27 +1,18 @@
-// Which losses of disks are fatal: the verdict on one set, and the list of all minimal erasures with its
-// vector.
+// Which losses of disks are fatal: the list of all minimal erasures with its vector.
 //
-// For the verdict and the list every byte string, set and slice is a legal argument. What is answered for
-// which input is said in flat/specs/Faults.antt.
+// For the list every byte string and slice is a legal argument. What is answered for which input is said in
+// flat/specs/Faults.antt.
 ghost use mathlib.Core.Path.{_≡_};
 ghost use mathlib.Core.List.{[]};
 ghost use Prim.Native.Nat.{_+_, _*_, _≤_};
 ghost use lib.ListN.{length, getD};
 ghost use Rattle.flat.specs.Lists.{padded, tabulate};
 ghost use Rattle.flat.specs.Cards.{code, columnsIn};
-ghost use Rattle.flat.specs.Erasures.{fatal, erasures, vector};
-ghost use Rattle.flat.specs.Faults.{unlessRefused, listReport, listSlice, erasuresReport, erasuresVector, erasuresSlice, verdictReport as verdictOf};
-ghost use Rattle.erasures.specs.Reports.{verdictReport, listedReport};
+ghost use Rattle.flat.specs.Erasures.{erasures, vector};
+ghost use Rattle.flat.specs.Faults.{unlessRefused, listReport, listSlice, erasuresReport, erasuresVector, erasuresSlice};
+ghost use Rattle.erasures.specs.Reports.{listedReport};
 use card::CardCheck;
 use card::CardFault;
-
-// The verdict call's answer: fatal or not, the card's fault, or a set with a disk that the code lacks.
-pub enum SetVerdict {
-    Fatal,
-    Recoverable,
-    Card(CardFault),
-    OutsideSet,
-}
 
 // The lister's answer: the count, the card's fault, or the count needed where the slice is shorter.
 pub enum Listed {
@@ -35,33 +26,6 @@ pub enum Listed {
 pub struct Listing {
     pub answer: Listed,
     pub vector: [usize; 17],
-}
-
-// Whether a row is left inside the set.
-fn fatal(columns: &[u8], k: usize, m: usize, set: u32) -> bool
-    requires { ⌜ (k ≤ 16) × (m ≤ 16) × (2 * m ≤ length (now columns)) ⌝ }
-    ensures { λ r. ⌜ r ≡ fatal (code k m (columnsIn m (now (columns .entry)))) set ⌝ }
-{
-    let left = gf2::within(bases::rows(columns, k, m), set);
-    left.count != 0
-}
-
-// The verdict call: whether the loss of the set is fatal.
-pub fn verdict(card: &[u8], set: u32) -> SetVerdict
-    ensures { λ r. ⌜ verdictReport r ≡ verdictOf (now (card .entry)) set ⌝ }
-{
-    match card::check(card) {
-        CardCheck::Bad(fault) => SetVerdict::Card(fault),
-        CardCheck::Good { k, m } => {
-            if !gf2::below(set, (k + m) as u32) {
-                return SetVerdict::OutsideSet;
-            }
-            if fatal(&card[2..], k, m, set) {
-                return SetVerdict::Fatal;
-            }
-            SetVerdict::Recoverable
-        }
-    }
 }
 
 // The vector out of the counts of entries by size.

@@ -1,7 +1,7 @@
 // Tests: the listings of document 01's worked codes, each card refusal, a code with too many entries, and
 // verdicts. What it must write was derived by tests/listing_test.py.
-use erasures::SetVerdict;
 use libc::STDOUT_FILENO;
+use verdicts::SetVerdict;
 
 // The listing of a card.
 fn list(card: &[u8]) {
@@ -13,7 +13,7 @@ fn list(card: &[u8]) {
 
 // The verdict on a set.
 fn judge(card: &[u8], set: u32) {
-    match erasures::verdict(card, set) {
+    match verdicts::verdict(card, set) {
         SetVerdict::Fatal => {
             io::write_all(STDOUT_FILENO, b"fatal\n");
         }

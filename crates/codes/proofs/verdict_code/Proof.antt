@@ -2,8 +2,8 @@
 use mathlib.Core.Path.{sym, ap, _∙_, subst}
 use Prim.Native.Nat.{_<_}
 use borrow.Author.Needs.{needs}
-use Rattle.erasures.specs.declared.SetVerdict.{SetVerdict}
-use Rattle.erasures.specs.Reports.{verdictReport}
+use Rattle.verdicts.specs.declared.SetVerdict.{SetVerdict}
+use Rattle.verdicts.specs.Reports.{verdictReport}
 use Rattle.codes.specs.Coded.{value, coded}
 use Rattle.codes.proofs.verdict_code.Statement.{statement}
 use Rattle.codes.proofs.verdict_code.Tie as tie

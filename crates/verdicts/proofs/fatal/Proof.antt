@@ -1,4 +1,4 @@
--- `erasures::fatal` meets its contract. Assumes nothing.
+-- `verdicts::fatal` meets its contract. Assumes nothing.
 use mathlib.Core.Path.{_≡_, ap, _∙_}
 use Prim.Native.Nat.{_≤_}
 use native.Mathlib.Omega.{arith}
@@ -6,9 +6,9 @@ use borrow.Author.Needs.{needs}
 use lib.ListN.{length}
 use lib.Seq.{length-take-le}
 use Rattle.gf2.specs.Within.{within}
-use Rattle.erasures.proofs.Laws.{left-fatal}
-use Rattle.erasures.proofs.fatal.Statement.{statement}
-use Rattle.erasures.proofs.fatal.Tie as tie
+use Rattle.verdicts.proofs.Laws.{left-fatal}
+use Rattle.verdicts.proofs.fatal.Statement.{statement}
+use Rattle.verdicts.proofs.fatal.Tie as tie
 
 rows-requires : tie.Need-rows-requires
 rows-requires c κs = search needs

@@ -1,4 +1,4 @@
--- `erasures::verdict` meets its contract. Assumes nothing.
+-- `verdicts::verdict` meets its contract. Assumes nothing.
 use mathlib.Core.Path.{_≡_, refl, sym, ap, _∙_}
 use mathlib.Core.Bool.{Bool, true, false, not}
 use mathlib.Core.List.{List, [], _∷_}
@@ -17,9 +17,9 @@ use Rattle.card.specs.declared.CardCheck.the-variants.{Good}
 use Rattle.card.specs.Reports.{checkReport}
 use Rattle.card.proofs.Laws.{rest}
 use Rattle.card.proofs.Callers.{GoodCard, good, good-with, bad-card}
-use Rattle.erasures.proofs.Laws.{verdict-good, verdict-bad}
-use Rattle.erasures.proofs.verdict.Statement.{statement}
-use Rattle.erasures.proofs.verdict.Tie as tie
+use Rattle.verdicts.proofs.Laws.{verdict-good, verdict-bad}
+use Rattle.verdicts.proofs.verdict.Statement.{statement}
+use Rattle.verdicts.proofs.verdict.Tie as tie
 
 check-requires : tie.Need-check-requires
 check-requires c κs = search needs

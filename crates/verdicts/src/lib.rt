@@ -1,0 +1,48 @@
+// The verdict on one set of disks: whether its loss is fatal.
+//
+// Every byte string and set is a legal argument. What is answered for which input is said in
+// flat/specs/Faults.antt.
+ghost use mathlib.Core.Path.{_≡_};
+ghost use Prim.Native.Nat.{_*_, _≤_};
+ghost use lib.ListN.{length};
+ghost use Rattle.flat.specs.Cards.{code, columnsIn};
+ghost use Rattle.flat.specs.Erasures.{fatal};
+ghost use Rattle.flat.specs.Faults.{verdictReport as verdictOf};
+ghost use Rattle.verdicts.specs.Reports.{verdictReport};
+use card::CardCheck;
+use card::CardFault;
+
+// The verdict call's answer: fatal or not, the card's fault, or a set with a disk that the code lacks.
+pub enum SetVerdict {
+    Fatal,
+    Recoverable,
+    Card(CardFault),
+    OutsideSet,
+}
+
+// Whether a row is left inside the set.
+fn fatal(columns: &[u8], k: usize, m: usize, set: u32) -> bool
+    requires { ⌜ (k ≤ 16) × (m ≤ 16) × (2 * m ≤ length (now columns)) ⌝ }
+    ensures { λ r. ⌜ r ≡ fatal (code k m (columnsIn m (now (columns .entry)))) set ⌝ }
+{
+    let left = gf2::within(bases::rows(columns, k, m), set);
+    left.count != 0
+}
+
+// The verdict call: whether the loss of the set is fatal.
+pub fn verdict(card: &[u8], set: u32) -> SetVerdict
+    ensures { λ r. ⌜ verdictReport r ≡ verdictOf (now (card .entry)) set ⌝ }
+{
+    match card::check(card) {
+        CardCheck::Bad(fault) => SetVerdict::Card(fault),
+        CardCheck::Good { k, m } => {
+            if !gf2::below(set, (k + m) as u32) {
+                return SetVerdict::OutsideSet;
+            }
+            if fatal(&card[2..], k, m, set) {
+                return SetVerdict::Fatal;
+            }
+            SetVerdict::Recoverable
+        }
+    }
+}
