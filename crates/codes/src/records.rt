@@ -2,7 +2,7 @@
 ghost use mathlib.Core.Path.{_≡_};
 ghost use Prim.Native.Nat.{_<_};
 ghost use Rattle.record_writer.specs.Reports.{writtenReport};
-ghost use Rattle.record_reader.specs.Reports.{recordFaultReport};
+ghost use Rattle.record_checks.specs.Reports.{recordFaultReport};
 ghost use Rattle.record.specs.Reports.{thereReport};
 ghost use Rattle.codes.specs.Coded.{value, coded};
 use crate::fault_code;

@@ -18,8 +18,8 @@ use Rattle.flat.specs.Faults.{Report, accepted, refused, unlessRefused, recordR
 use Rattle.flat.proofs.Reports.{unless-accepted, unless-refused}
 use Rattle.flat.proofs.Received.{with-received, body-there}
 use Rattle.contents.specs.Places.{stripsAt, bodyFrom}
-use Rattle.record_reader.specs.declared.RecordFault.{RecordFault}
-use Rattle.record_reader.specs.Reports.{recordFaultReport}
+use Rattle.record_checks.specs.declared.RecordFault.{RecordFault}
+use Rattle.record_checks.specs.Reports.{recordFaultReport}
 use Rattle.record_reader.proofs.Callers.{GoodRecord, unless-bad, bad-record}
 
 -- ---- a good record

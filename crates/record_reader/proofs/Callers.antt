@@ -17,9 +17,9 @@ use Rattle.flat.proofs.Received.{Received, received, with-refused-record}
 use Rattle.card.specs.declared.CardFault.the-variants as card
 use Rattle.card.proofs.Laws.{unless-fault}
 use Rattle.contents.specs.Places.{stripsAt}
-use Rattle.record_reader.specs.declared.RecordFault.{RecordFault}
-use Rattle.record_reader.specs.declared.RecordFault.the-variants as fault
-use Rattle.record_reader.specs.Reports.{recordFaultReport}
+use Rattle.record_checks.specs.declared.RecordFault.{RecordFault}
+use Rattle.record_checks.specs.declared.RecordFault.the-variants as fault
+use Rattle.record_checks.specs.Reports.{recordFaultReport}
 
 -- ---- a bad record
 

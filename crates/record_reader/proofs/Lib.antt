@@ -1,4 +1,3 @@
 pub mod Answers
 pub mod Callers
-pub mod Heads
 pub mod Theorems

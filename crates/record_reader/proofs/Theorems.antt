@@ -6,11 +6,11 @@ use lib.ListN.{getD}
 use Rattle.gf2.specs.If.{if_then_else_}
 use Rattle.flat.specs.Faults.{Report}
 use Rattle.card.proofs.Theorems.{carried, carried-back}
-use Rattle.record_reader.specs.declared.RecordFault.{RecordFault}
-use Rattle.record_reader.specs.declared.RecordFault.the-variants as fault
-use Rattle.record_reader.specs.declared.RecordCheck.{RecordCheck}
-use Rattle.record_reader.specs.declared.RecordCheck.the-variants as check
-use Rattle.record_reader.specs.Reports.{recordFaultReport, checkReport}
+use Rattle.record_checks.specs.declared.RecordFault.{RecordFault}
+use Rattle.record_checks.specs.declared.RecordFault.the-variants as fault
+use Rattle.record_checks.specs.declared.RecordCheck.{RecordCheck}
+use Rattle.record_checks.specs.declared.RecordCheck.the-variants as check
+use Rattle.record_checks.specs.Reports.{recordFaultReport, checkReport}
 use Rattle.record_reader.specs.Theorems.{FaultInjective, CheckInjective}
 
 -- an answer that carries a record's fault, where the number is one of a record's, else another

@@ -1,3 +1,1 @@
-pub mod Reports
-pub mod Tests
 pub mod Theorems

@@ -2,9 +2,9 @@
 -- The proofs are those of proofs/Theorems.antt.
 -- Assumes nothing.
 use mathlib.Core.Path.{_≡_}
-use Rattle.record_reader.specs.declared.RecordFault.{RecordFault}
-use Rattle.record_reader.specs.declared.RecordCheck.{RecordCheck}
-use Rattle.record_reader.specs.Reports.{recordFaultReport, checkReport}
+use Rattle.record_checks.specs.declared.RecordFault.{RecordFault}
+use Rattle.record_checks.specs.declared.RecordCheck.{RecordCheck}
+use Rattle.record_checks.specs.Reports.{recordFaultReport, checkReport}
 
 abbrev pub FaultInjective : Type 0
 FaultInjective = (a b : RecordFault) → recordFaultReport a ≡ recordFaultReport b → a ≡ b

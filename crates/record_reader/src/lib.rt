@@ -3,39 +3,11 @@
 // Every byte string is a legal argument. A record's layout is said in flat/specs/Records.antt, and what
 // is answered for which input in flat/specs/Faults.antt.
 ghost use mathlib.Core.Path.{_≡_};
-ghost use mathlib.Core.Bool.{true};
-ghost use Prim.Native.Nat.{_+_, _*_, _<_, _≤_};
-ghost use lib.ListN.{length};
-ghost use Rattle.flat.specs.Records.{markOk, entriesOk, cardEntryOk};
 ghost use Rattle.flat.specs.Faults.{recordReport, recordColumns};
-ghost use Rattle.record_reader.specs.Reports.{checkReport};
-use crate::tail::check_strips;
+ghost use Rattle.record_checks.specs.Reports.{checkReport};
 use card::CardCheck;
-use card::CardFault;
-
-mod tail;
-
-// A fault of whoever sent the record: another mark, a strip length that is none, other contents, the
-// card's fault, or another length of the file.
-pub enum RecordFault {
-    Mark,
-    StripLength,
-    Contents,
-    Card(CardFault),
-    FileLength,
-}
-
-// What the reader finds: a record of k data disks and m parity disks, the length of its strips and its
-// lost set, or its fault.
-pub enum RecordCheck {
-    Good {
-        k: usize,
-        m: usize,
-        l: usize,
-        lost: u32,
-    },
-    Bad(RecordFault),
-}
+pub use record_checks::RecordCheck;
+pub use record_checks::RecordFault;
 
 // The reader's answer. The columns stand in the first m places, the others are 0, and all are where the
 // file is refused.
@@ -44,67 +16,21 @@ pub struct RecordRead {
     pub columns: [u16; 16],
 }
 
-// Ten bytes, and the mark at the front.
-fn mark_ok(file: &[u8]) -> bool
-    ensures { λ r. ⌜ r ≡ markOk (now (file .entry)) ⌝ }
-{
-    if file.len() < 10 {
-        return false;
-    }
-    contents::stands(file, 0, b"FXC1")
-}
-
-// E is 3 to 33, and no entry lies past the end.
-fn entries_ok(file: &[u8]) -> bool
-    requires { ⌜ 10 ≤ length (now file) ⌝ }
-    ensures { λ r. ⌜ r ≡ entriesOk (now (file .entry)) ⌝ }
-{
-    let e = contents::number_2(file, 8);
-    if e < 3 {
-        return false;
-    }
-    if e > 33 {
-        return false;
-    }
-    10 + 10 * e <= file.len()
-}
-
-// The card's entry: kind 0, disk 0, the body after the contents and not past the end.
-fn card_entry_ok(file: &[u8]) -> bool
-    requires { ⌜ entriesOk (now file) ≡ true ⌝ }
-    ensures { λ r. ⌜ r ≡ cardEntryOk (now (file .entry)) ⌝ }
-{
-    let e = contents::number_2(file, 8);
-    let at = contents::number_4(file, 12);
-    let len = contents::number_4(file, 16);
-    let bodies = 10 + 10 * e;
-    if file[10] != 0 {
-        return false;
-    }
-    if file[11] != 0 {
-        return false;
-    }
-    if at != bodies {
-        return false;
-    }
-    at + len <= file.len()
-}
-
 // Whether the bytes are a record, and of what.
 pub fn check(file: &[u8]) -> RecordCheck
     ensures { λ r. ⌜ checkReport r ≡ recordReport (now (file .entry)) ⌝ }
 {
-    if !mark_ok(file) {
+    if !record_checks::mark_ok(file) {
         return RecordCheck::Bad(RecordFault::Mark);
     }
     let l = contents::number_4(file, 4);
     if !strips::length_ok(l) {
         return RecordCheck::Bad(RecordFault::StripLength);
     }
-    if !entries_ok(file) {
+    if !record_checks::entries_ok(file) {
         return RecordCheck::Bad(RecordFault::Contents);
     }
-    if !card_entry_ok(file) {
+    if !record_checks::card_entry_ok(file) {
         return RecordCheck::Bad(RecordFault::Contents);
     }
     let e = contents::number_2(file, 8);
@@ -116,7 +42,7 @@ pub fn check(file: &[u8]) -> RecordCheck
             if e != k + m + 1 {
                 return RecordCheck::Bad(RecordFault::Contents);
             }
-            check_strips(file, k, m, l)
+            record_checks::check_strips(file, k, m, l)
         }
     }
 }

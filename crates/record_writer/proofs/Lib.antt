@@ -1,3 +1,3 @@
-pub mod Recorded
+pub mod Asked
 pub mod Theorems
 pub mod WriterAnswers

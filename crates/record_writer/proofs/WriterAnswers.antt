@@ -26,9 +26,10 @@ use Rattle.card.proofs.Callers.{GoodCard, good-with, bad-card}
 use Rattle.flat.proofs.Lengths.{length-in}
 use Rattle.copies.specs.Put.{put}
 use Rattle.contents.specs.Places.{stripsAt, bodyFrom}
-use Rattle.record_writer.specs.Layout.{recordFrom}
+use Rattle.record_bytes.specs.Layout.{recordFrom}
+use Rattle.record_bytes.proofs.Recorded.{length-record}
 use Rattle.record_writer.specs.Tests.{written}
-use Rattle.record_writer.proofs.Recorded.{length-record, strips-start, length-asked, record-asked}
+use Rattle.record_writer.proofs.Asked.{strips-start, length-asked, record-asked}
 
 -- ---- the tests at each way out
 

@@ -1,4 +1,3 @@
-pub mod Layout
 pub mod Reports
 pub mod Tests
 pub mod Theorems

@@ -11,8 +11,7 @@ ghost use lib.ListN.{length};
 ghost use Rattle.flat.specs.Cards.{code};
 ghost use Rattle.flat.specs.Faults.{unlessRefused, recordWriteReport, recordWriteOutput};
 ghost use Rattle.copies.specs.Put.{put};
-ghost use Rattle.contents.specs.Places.{bodyFrom};
-ghost use Rattle.record_writer.specs.Layout.{recordFrom};
+ghost use Rattle.record_bytes.specs.Layout.{recordFrom};
 ghost use Rattle.record_writer.specs.Reports.{writtenReport};
 ghost use Rattle.record_writer.specs.Tests.{written};
 use card::CardCheck;
@@ -65,23 +64,6 @@ fn decide(k: usize, m: usize, l: usize, lost: u32, size: usize, room: usize) -> 
     RecordWritten::Length(t)
 }
 
-// Puts the mark, the contents, the card and the bodies.
-fn put_record(card: &[u8], n: usize, l: usize, lost: u32, stripe: &[u8], out: &mut [u8])
-    requires { ⌜ (n ≤ 32) × (l ≤ 65536) × (length (now card) ≤ 34) × (n * l ≤ length (now stripe)) × (bodyFrom (20 + 10 * n + length (now card)) l lost n ≤ length (now out)) ⌝ }
-    ensures { λ _. ⌜ now (out .exit) ≡ put (now (out .entry)) 0 (recordFrom (now (card .entry)) n l lost (now (stripe .entry))) ⌝ }
-{
-    let bodies = 20 + 10 * n;
-    let start = bodies + card.len();
-    copies::copy(out, 0, b"FXC1");
-    let sizes = contents::sizes(l, n + 1);
-    copies::copy(out, 4, &sizes);
-    let entry = contents::entry(0, 0, bodies, card.len());
-    copies::copy(out, 10, &entry);
-    entries::put_entries(out, start, l, lost, n);
-    copies::copy(out, bodies, card);
-    entries::put_bodies(out, start, l, lost, stripe, n);
-}
-
 // The writer, for a good card of k and m.
 fn write_good(
     card: &[u8],
@@ -98,7 +80,7 @@ fn write_good(
 {
     let answer = decide(k, m, l, lost, stripe.len(), out.len());
     if accepts(answer) {
-        put_record(card, k + m, l, lost, stripe, out);
+        record_bytes::put_record(card, k + m, l, lost, stripe, out);
     }
     answer
 }

@@ -10,7 +10,7 @@ use Rattle.flat.specs.Cards.{cardLength}
 use Rattle.flat.specs.Records.{bodiesAt}
 use Rattle.flat.specs.Faults.{accepted, recordReport}
 use Rattle.contents.specs.Places.{stripsAt}
-use Rattle.record_reader.specs.Reports.{checkReport}
+use Rattle.record_checks.specs.Reports.{checkReport}
 use Rattle.record_reader.proofs.Callers.{GoodRecord, good, card-lent, columns-good, columns-none}
 use Rattle.record_reader.proofs.read.Statement.{statement}
 use Rattle.record_reader.proofs.read.Tie as tie

@@ -8,7 +8,7 @@ use lib.ListN.{length}
 use Rattle.flat.proofs.Reports.{unless-zero, unless-other}
 use Rattle.contents.specs.Places.{bodyFrom}
 use Rattle.record_writer.specs.Reports.{writtenReport}
-use Rattle.record_writer.proofs.Recorded.{strips-start}
+use Rattle.record_writer.proofs.Asked.{strips-start}
 use Rattle.record_writer.proofs.WriterAnswers.{Passed, zero-passed}
 use borrow.Author.Needs.{needs}
 use Rattle.record_writer.proofs.write_good.Statement.{statement}

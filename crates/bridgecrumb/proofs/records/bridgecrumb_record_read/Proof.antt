@@ -7,7 +7,7 @@ use borrow.Author.Needs.{needs}
 use denote.Ref.{now}
 use Rattle.flat.specs.Faults.{Report, accepted, recordReport}
 use Rattle.flat.proofs.Reports.{unless-accepted}
-use Rattle.record_reader.specs.Reports.{recordFaultReport, checkReport}
+use Rattle.record_checks.specs.Reports.{recordFaultReport, checkReport}
 use Rattle.record_reader.proofs.Callers.{unless-bad}
 use Rattle.codes.specs.Coded.{value, coded, codedFault}
 use Rattle.bounds.proofs.RecordValues.{record-value}

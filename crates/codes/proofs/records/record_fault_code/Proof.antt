@@ -2,8 +2,8 @@
 use mathlib.Core.Path.{sym, ap, _∙_, subst}
 use Prim.Native.Nat.{_<_}
 use borrow.Author.Needs.{needs}
-use Rattle.record_reader.specs.declared.RecordFault.{RecordFault}
-use Rattle.record_reader.specs.Reports.{recordFaultReport}
+use Rattle.record_checks.specs.declared.RecordFault.{RecordFault}
+use Rattle.record_checks.specs.Reports.{recordFaultReport}
 use Rattle.codes.specs.Coded.{value, coded}
 use Rattle.codes.proofs.records.record_fault_code.Statement.{statement}
 use Rattle.codes.proofs.records.record_fault_code.Tie as tie

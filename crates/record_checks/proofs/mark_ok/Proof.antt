@@ -1,9 +1,9 @@
--- `record_reader::mark_ok` meets its contract.
+-- `record_checks::mark_ok` meets its contract.
 -- Assumes nothing.
 use borrow.Author.Needs.{needs}
-use Rattle.record_reader.proofs.Heads.{mark-short, mark-long}
-use Rattle.record_reader.proofs.mark_ok.Statement.{statement}
-use Rattle.record_reader.proofs.mark_ok.Tie as tie
+use Rattle.record_checks.proofs.Heads.{mark-short, mark-long}
+use Rattle.record_checks.proofs.mark_ok.Statement.{statement}
+use Rattle.record_checks.proofs.mark_ok.Tie as tie
 
 returns : tie.Need-returns
 returns c = mark-short _ (c .if1 .taken)

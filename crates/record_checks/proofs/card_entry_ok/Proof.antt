@@ -1,4 +1,4 @@
--- `record_reader::card_entry_ok` meets its contract.
+-- `record_checks::card_entry_ok` meets its contract.
 -- Assumes nothing.
 use mathlib.Core.Path.{_≡_}
 use Prim.Native.Nat.{_≤_}
@@ -7,9 +7,9 @@ use denote.Ref.{now}
 use lib.ListN.{length}
 use borrow.Author.Needs.{needs}
 use Rattle.flat.specs.Lists.{field}
-use Rattle.record_reader.proofs.Heads.{entries-in, card-kind, card-disk, card-place, card-end}
-use Rattle.record_reader.proofs.card_entry_ok.Statement.{statement}
-use Rattle.record_reader.proofs.card_entry_ok.Tie as tie
+use Rattle.record_checks.proofs.Heads.{entries-in, card-kind, card-disk, card-place, card-end}
+use Rattle.record_checks.proofs.card_entry_ok.Statement.{statement}
+use Rattle.record_checks.proofs.card_entry_ok.Tie as tie
 
 -- the contents have forty bytes at least
 forty : (c : tie.Start) → 40 ≤ length (now (c .args .file))

@@ -1,10 +1,10 @@
--- `record_reader::entries_ok` meets its contract.
+-- `record_checks::entries_ok` meets its contract.
 -- Assumes nothing.
 use native.Mathlib.Omega.{arith}
 use borrow.Author.Needs.{needs}
-use Rattle.record_reader.proofs.Heads.{entries-few, entries-many, entries-fit}
-use Rattle.record_reader.proofs.entries_ok.Statement.{statement}
-use Rattle.record_reader.proofs.entries_ok.Tie as tie
+use Rattle.record_checks.proofs.Heads.{entries-few, entries-many, entries-fit}
+use Rattle.record_checks.proofs.entries_ok.Statement.{statement}
+use Rattle.record_checks.proofs.entries_ok.Tie as tie
 
 number-2-requires : tie.Need-number-2-requires
 number-2-requires c κs = search needs

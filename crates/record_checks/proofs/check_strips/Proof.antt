@@ -1,11 +1,11 @@
--- `record_reader::tail::check_strips` meets its contract.
+-- `record_checks::check_strips` meets its contract.
 -- Assumes nothing.
 use mathlib.Core.Path.{sym, _∙_}
 use borrow.Author.Tests.{not-true, not-false}
 use borrow.Author.Needs.{needs}
-use Rattle.record_reader.proofs.Answers.{other-entry, other-end, good-end}
-use Rattle.record_reader.proofs.tail.check_strips.Statement.{statement}
-use Rattle.record_reader.proofs.tail.check_strips.Tie as tie
+use Rattle.record_checks.proofs.Strips.{other-entry, other-end, good-end}
+use Rattle.record_checks.proofs.check_strips.Statement.{statement}
+use Rattle.record_checks.proofs.check_strips.Tie as tie
 
 add-n : tie.Need-add-n
 add-n c = search needs

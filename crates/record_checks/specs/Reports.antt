@@ -3,10 +3,10 @@
 use mathlib.Core.List.{[], _∷_}
 use Rattle.flat.specs.Faults.{Report, accepted, refused}
 use Rattle.card.specs.Reports.{faultReport}
-use Rattle.record_reader.specs.declared.RecordFault.{RecordFault}
-use Rattle.record_reader.specs.declared.RecordFault.the-variants as fault
-use Rattle.record_reader.specs.declared.RecordCheck.{RecordCheck}
-use Rattle.record_reader.specs.declared.RecordCheck.the-variants as check
+use Rattle.record_checks.specs.declared.RecordFault.{RecordFault}
+use Rattle.record_checks.specs.declared.RecordFault.the-variants as fault
+use Rattle.record_checks.specs.declared.RecordCheck.{RecordCheck}
+use Rattle.record_checks.specs.declared.RecordCheck.the-variants as check
 
 -- a record's fault
 abbrev pub recordFaultReport : RecordFault → Report

@@ -1,4 +1,4 @@
--- `record_writer::put_record` meets its contract: the parts are put one after the other.
+-- `record_bytes::put_record` meets its contract: the parts are put one after the other.
 -- Assumes nothing.
 use mathlib.Core.Path.{_≡_, ap, ap₂, _∙_}
 use mathlib.Core.List.{List}
@@ -10,10 +10,10 @@ use Rattle.flat.specs.Lists.{range, each}
 use Rattle.flat.specs.Records.{mark, entry, stripBody}
 use Rattle.copies.specs.Put.{put}
 use Rattle.contents.specs.Places.{stripEntryFrom}
-use Rattle.record_writer.proofs.Recorded.{sizesOf, after-start, record-put}
+use Rattle.record_bytes.proofs.Recorded.{sizesOf, after-start, record-put}
 use borrow.Author.Needs.{needs}
-use Rattle.record_writer.proofs.put_record.Statement.{statement}
-use Rattle.record_writer.proofs.put_record.Tie as tie
+use Rattle.record_bytes.proofs.put_record.Statement.{statement}
+use Rattle.record_bytes.proofs.put_record.Tie as tie
 
 -- the function's start, from where each part has been put
 abbrev start : tie.After-slice-known → tie.Start
