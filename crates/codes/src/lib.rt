@@ -11,7 +11,7 @@ ghost use Rattle.erasures.specs.Reports.{verdictReport};
 ghost use Rattle.likeness.specs.Reports.{alikeReport};
 ghost use Rattle.equations.specs.Reports.{toldReport};
 ghost use Rattle.encoder.specs.Reports.{encodedReport};
-ghost use Rattle.rebuilder.specs.Reports.{rebuiltReport};
+ghost use Rattle.decision.specs.Reports.{rebuiltReport};
 ghost use Rattle.codes.specs.Coded.{value, coded};
 use card::CardFault;
 use card_writer::CardWritten;
