@@ -1,6 +1,6 @@
 // The answers of the calls as one number each, for a caller in C: the report's number, 0 where the call is
 // accepted, and 256 times the value that the report names, if it names one. Here stand those of the calls
-// on cards, sets and stripes, in `records` those of the calls on record files.
+// on cards, sets and stripes, in crate record_codes those of the calls on record files.
 //
 // Every function assumes that the value is below 2 ^ 32, so that the number fits into 64 bits.
 ghost use mathlib.Core.Path.{_≡_};
@@ -20,12 +20,6 @@ use equations::Told;
 use erasures::SetVerdict;
 use likeness::Likeness;
 use rebuilder::Rebuilt;
-
-mod records;
-
-pub use records::record_fault_code;
-pub use records::record_written_code;
-pub use records::there_code;
 
 // A report's number and its value as one number.
 pub fn joined(number: u64, value: usize) -> u64
