@@ -16,7 +16,7 @@ use Rattle.flat.specs.Records.{recordLength, lengthIn, bodyIn, markOk, entriesO
 use Rattle.flat.specs.Faults.{Report, accepted, refused, withRecord, recordWriteReport, recordReport, bodyReport}
 use Rattle.flat.proofs.Lengths.{length-in}
 use Rattle.flat.proofs.Entries.{body-place}
-use Rattle.codes.specs.Coded.{value}
+use Rattle.bounds.specs.Coded.{value}
 use Rattle.bounds.proofs.Values.{pick, with-value}
 
 -- a record is shorter than four gigabytes

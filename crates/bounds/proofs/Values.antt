@@ -28,7 +28,7 @@ use Rattle.flat.proofs.Cards.{count-in}
 use Rattle.flat.proofs.ErasuresListed.{erasures-enumerated}
 use Rattle.flat.proofs.EquationsListed.{equations-enumerated}
 use Rattle.marks.proofs.Filters.{filter-length, length-range}
-use Rattle.codes.specs.Coded.{value}
+use Rattle.bounds.specs.Coded.{value}
 
 -- ---- how long a list is
 

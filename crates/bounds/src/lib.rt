@@ -1,2 +1,2 @@
-// That the value a report names is below 2 ^ 32, so that an answer fits in one number (proofs/). No code:
-// the exported calls go by it.
+// A report as one number, for a caller in C (specs/), and that the value it names is below 2 ^ 32, so that
+// number and value fit together (proofs/). No code: the exported calls go by it.

@@ -3,7 +3,7 @@ ghost use mathlib.Core.Path.{_≡_};
 ghost use lib.ListN.{length};
 ghost use Rattle.flat.specs.Cards.{code};
 ghost use Rattle.flat.specs.Faults.{unlessRefused, cardReport, cardColumns, cardWriteReport, cardWriteBuffer, alikeReport};
-ghost use Rattle.codes.specs.Coded.{coded, codedFault};
+ghost use Rattle.bounds.specs.Coded.{coded, codedFault};
 use card::CardCheck;
 use codes::fault_code;
 use codes::likeness_code;

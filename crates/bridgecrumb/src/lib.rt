@@ -8,7 +8,7 @@
 ghost use mathlib.Core.Path.{_≡_};
 ghost use lib.ListN.{length};
 ghost use Rattle.flat.specs.Faults.{unlessRefused, encodeReport, encodeStripe, verdictReport, erasuresReport, erasuresVector, erasuresSlice, equationsReport, equationsSlice, rebuildReport, rebuildStripe};
-ghost use Rattle.codes.specs.Coded.{coded};
+ghost use Rattle.bounds.specs.Coded.{coded};
 use codes::encoded_code;
 use codes::fault_code;
 use codes::joined;

@@ -5,12 +5,12 @@ ghost use Prim.Native.Nat.{suc};
 ghost use lib.ListN.{length};
 ghost use Rattle.flat.specs.Records.{offsetIn, bodyLengthIn};
 ghost use Rattle.flat.specs.Faults.{unlessRefused, recordWriteReport, recordWriteOutput, recordReport, recordColumns, bodyReport};
-ghost use Rattle.codes.specs.Coded.{coded, codedFault};
-use codes::record_fault_code;
-use codes::record_written_code;
-use codes::there_code;
+ghost use Rattle.bounds.specs.Coded.{coded, codedFault};
 use record::BodyCheck;
 use record::RecordCheck;
+use record_codes::record_fault_code;
+use record_codes::record_written_code;
+use record_codes::there_code;
 
 // The record writer: the record of the stripe at the output's front. A refused call writes nothing.
 #[no_mangle]

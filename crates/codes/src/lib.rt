@@ -1,6 +1,6 @@
 // The answers of the calls as one number each, for a caller in C: the report's number, 0 where the call is
 // accepted, and 256 times the value that the report names, if it names one. Here stand those of the calls
-// on cards, sets and stripes, in `records` those of the calls on record files.
+// on cards, sets and stripes, in crate record_codes those of the calls on record files.
 //
 // Every function assumes that the value is below 2 ^ 32, so that the number fits into 64 bits.
 ghost use mathlib.Core.Path.{_≡_};
@@ -11,8 +11,8 @@ ghost use Rattle.verdicts.specs.Reports.{verdictReport};
 ghost use Rattle.likeness.specs.Reports.{alikeReport};
 ghost use Rattle.equations.specs.Reports.{toldReport};
 ghost use Rattle.encoder.specs.Reports.{encodedReport};
-ghost use Rattle.rebuilder.specs.Reports.{rebuiltReport};
-ghost use Rattle.codes.specs.Coded.{value, coded};
+ghost use Rattle.decision.specs.Reports.{rebuiltReport};
+ghost use Rattle.bounds.specs.Coded.{value, coded};
 use card::CardFault;
 use card_writer::CardWritten;
 use encoder::Encoded;
@@ -20,12 +20,6 @@ use equations::Told;
 use likeness::Likeness;
 use rebuilder::Rebuilt;
 use verdicts::SetVerdict;
-
-mod records;
-
-pub use records::record_fault_code;
-pub use records::record_written_code;
-pub use records::there_code;
 
 // A report's number and its value as one number.
 pub fn joined(number: u64, value: usize) -> u64

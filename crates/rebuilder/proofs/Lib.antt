@@ -1,3 +1,2 @@
-pub mod Answers
+pub mod Answered
 pub mod Restoring
-pub mod Theorems

@@ -20,7 +20,7 @@ use Rattle.flat.specs.Repairs.{filled, equationAmong}
 use Rattle.flat.proofs.Duality.{survivor-out}
 use Rattle.flat.proofs.Theorems.{equation-left, restored-filled}
 use Rattle.repairs.proofs.Callers.{equation-at}
-use Rattle.rebuilder.proofs.Answers.{Passed}
+use Rattle.decision.proofs.Answers.{Passed}
 
 -- a disk of a set of disks below n is below n
 disk-below : (n S d : ℕ) → S < 2 ^ n → T (has S d) → d < n

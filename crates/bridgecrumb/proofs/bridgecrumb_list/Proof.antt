@@ -11,7 +11,7 @@ use Rattle.flat.proofs.Reports.{unless-accepted, unless-refused}
 use Rattle.card.specs.Reports.{faultReport}
 use Rattle.card.proofs.Laws.{unless-fault}
 use Rattle.erasures.specs.Reports.{listedReport}
-use Rattle.codes.specs.Coded.{value, coded}
+use Rattle.bounds.specs.Coded.{value, coded}
 use Rattle.bounds.proofs.Values.{erasures-value}
 use Rattle.bridgecrumb.proofs.bridgecrumb_list.Statement.{statement}
 use Rattle.bridgecrumb.proofs.bridgecrumb_list.Tie as tie

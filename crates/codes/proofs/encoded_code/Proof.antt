@@ -4,7 +4,7 @@ use Prim.Native.Nat.{_<_}
 use borrow.Author.Needs.{needs}
 use Rattle.encoder.specs.declared.Encoded.{Encoded}
 use Rattle.encoder.specs.Reports.{encodedReport}
-use Rattle.codes.specs.Coded.{value, coded}
+use Rattle.bounds.specs.Coded.{value, coded}
 use Rattle.codes.proofs.encoded_code.Statement.{statement}
 use Rattle.codes.proofs.encoded_code.Tie as tie
 

@@ -5,7 +5,7 @@ use native.Mathlib.Omega.{arith}
 use borrow.Author.Needs.{needs}
 use Rattle.card.specs.declared.CardFault.{CardFault}
 use Rattle.card.specs.Reports.{faultReport}
-use Rattle.codes.specs.Coded.{value, coded}
+use Rattle.bounds.specs.Coded.{value, coded}
 use Rattle.codes.proofs.fault_code.Statement.{statement}
 use Rattle.codes.proofs.fault_code.Tie as tie
 

@@ -4,7 +4,7 @@ use Prim.Native.Nat.{_<_}
 use borrow.Author.Needs.{needs}
 use Rattle.likeness.specs.declared.Likeness.{Likeness}
 use Rattle.likeness.specs.Reports.{alikeReport}
-use Rattle.codes.specs.Coded.{value, coded}
+use Rattle.bounds.specs.Coded.{value, coded}
 use Rattle.codes.proofs.likeness_code.Statement.{statement}
 use Rattle.codes.proofs.likeness_code.Tie as tie
 

@@ -2,9 +2,9 @@
 use mathlib.Core.Path.{sym, ap, _∙_, subst}
 use Prim.Native.Nat.{_<_}
 use native.Mathlib.Omega.{arith}
-use Rattle.rebuilder.specs.declared.Rebuilt.{Rebuilt}
-use Rattle.rebuilder.specs.Reports.{rebuiltReport}
-use Rattle.codes.specs.Coded.{value, coded}
+use Rattle.decision.specs.declared.Rebuilt.{Rebuilt}
+use Rattle.decision.specs.Reports.{rebuiltReport}
+use Rattle.bounds.specs.Coded.{value, coded}
 use borrow.Author.Needs.{needs}
 use Rattle.codes.proofs.rebuilt_code.Statement.{statement}
 use Rattle.codes.proofs.rebuilt_code.Tie as tie

@@ -5,7 +5,7 @@ use native.Mathlib.Omega.{arith}
 use borrow.Author.Needs.{needs}
 use Rattle.equations.specs.declared.Told.{Told}
 use Rattle.equations.specs.Reports.{toldReport}
-use Rattle.codes.specs.Coded.{value, coded}
+use Rattle.bounds.specs.Coded.{value, coded}
 use Rattle.codes.proofs.told_code.Statement.{statement}
 use Rattle.codes.proofs.told_code.Tie as tie
 

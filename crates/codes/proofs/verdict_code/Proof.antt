@@ -4,7 +4,7 @@ use Prim.Native.Nat.{_<_}
 use borrow.Author.Needs.{needs}
 use Rattle.verdicts.specs.declared.SetVerdict.{SetVerdict}
 use Rattle.verdicts.specs.Reports.{verdictReport}
-use Rattle.codes.specs.Coded.{value, coded}
+use Rattle.bounds.specs.Coded.{value, coded}
 use Rattle.codes.proofs.verdict_code.Statement.{statement}
 use Rattle.codes.proofs.verdict_code.Tie as tie
 

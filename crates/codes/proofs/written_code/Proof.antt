@@ -4,7 +4,7 @@ use Prim.Native.Nat.{_<_}
 use borrow.Author.Needs.{needs}
 use Rattle.card_writer.specs.declared.CardWritten.{CardWritten}
 use Rattle.card_writer.specs.Reports.{writtenReport}
-use Rattle.codes.specs.Coded.{value, coded}
+use Rattle.bounds.specs.Coded.{value, coded}
 use Rattle.codes.proofs.written_code.Statement.{statement}
 use Rattle.codes.proofs.written_code.Tie as tie
 

@@ -5,8 +5,8 @@ use borrow.Author.Needs.{needs}
 use denote.Ref.{now}
 use Rattle.flat.specs.Cards.{columnsIn}
 use Rattle.flat.proofs.Reports.{unless-zero, unless-other}
-use Rattle.rebuilder.specs.Reports.{rebuiltReport}
-use Rattle.rebuilder.proofs.Answers.{Passed, zero-passed}
+use Rattle.decision.specs.Reports.{rebuiltReport}
+use Rattle.decision.proofs.Answers.{Passed, zero-passed}
 use Rattle.rebuilder.proofs.Restoring.{filled-restored}
 use Rattle.rebuilder.proofs.rebuild_columns.Statement.{statement}
 use Rattle.rebuilder.proofs.rebuild_columns.Tie as tie

@@ -9,7 +9,7 @@ use Rattle.flat.specs.Faults.{Report, accepted, cardReport}
 use Rattle.flat.proofs.Reports.{unless-accepted}
 use Rattle.card.specs.Reports.{faultReport, checkReport}
 use Rattle.card.proofs.Laws.{unless-fault}
-use Rattle.codes.specs.Coded.{value, coded, codedFault}
+use Rattle.bounds.specs.Coded.{value, coded, codedFault}
 use Rattle.bounds.proofs.Values.{card-value}
 use Rattle.bridgecrumb.proofs.cards.bridgecrumb_card_read.Statement.{statement}
 use Rattle.bridgecrumb.proofs.cards.bridgecrumb_card_read.Tie as tie

@@ -10,7 +10,7 @@ use Rattle.flat.proofs.Reports.{unless-accepted, unless-refused}
 use Rattle.record.specs.declared.bodies.BodyCheck.{BodyCheck}
 use Rattle.record.specs.Reports.{thereReport}
 use Rattle.record_reader.proofs.Callers.{unless-bad}
-use Rattle.codes.specs.Coded.{value, coded}
+use Rattle.bounds.specs.Coded.{value, coded}
 use Rattle.bounds.proofs.RecordValues.{body-value}
 use Rattle.bridgecrumb.proofs.records.bridgecrumb_record_body.Statement.{statement}
 use Rattle.bridgecrumb.proofs.records.bridgecrumb_record_body.Tie as tie

@@ -9,7 +9,7 @@ use Rattle.flat.specs.Faults.{Report, accepted, recordReport}
 use Rattle.flat.proofs.Reports.{unless-accepted}
 use Rattle.record_checks.specs.Reports.{recordFaultReport, checkReport}
 use Rattle.record_reader.proofs.Callers.{unless-bad}
-use Rattle.codes.specs.Coded.{value, coded, codedFault}
+use Rattle.bounds.specs.Coded.{value, coded, codedFault}
 use Rattle.bounds.proofs.RecordValues.{record-value}
 use Rattle.bridgecrumb.proofs.records.bridgecrumb_record_read.Statement.{statement}
 use Rattle.bridgecrumb.proofs.records.bridgecrumb_record_read.Tie as tie

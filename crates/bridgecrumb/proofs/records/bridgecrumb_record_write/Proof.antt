@@ -5,7 +5,7 @@ use borrow.Author.Needs.{needs}
 use denote.Ref.{now}
 use lib.ListN.{length}
 use Rattle.flat.specs.Faults.{Report}
-use Rattle.codes.specs.Coded.{value, coded}
+use Rattle.bounds.specs.Coded.{value, coded}
 use Rattle.bounds.proofs.RecordValues.{record-write-value}
 use Rattle.bridgecrumb.proofs.records.bridgecrumb_record_write.Statement.{statement}
 use Rattle.bridgecrumb.proofs.records.bridgecrumb_record_write.Tie as tie

@@ -1,4 +1,4 @@
--- `rebuilder::decide` meets its contract: the tests stand in the document's order.
+-- `decision::decide` meets its contract: the tests stand in the document's order.
 -- Assumes nothing.
 use mathlib.Core.Path.{_≡_, sym, ap, _∙_}
 use mathlib.Core.Bool.{true}
@@ -17,9 +17,9 @@ use Rattle.flat.specs.Repairs.{consistent}
 use Rattle.flat.specs.Faults.{accepted}
 use Rattle.flat.proofs.Lengths.{length-in, stripe-small}
 use Rattle.repairs.proofs.Callers.{undetermined-fatal, vanish-consistent}
-use Rattle.rebuilder.proofs.Answers.{tested-length, tested-set, tested-stripe, tested-fatal, tested-none, tested-some}
-use Rattle.rebuilder.proofs.decide.Statement.{statement}
-use Rattle.rebuilder.proofs.decide.Tie as tie
+use Rattle.decision.proofs.Answers.{tested-length, tested-set, tested-stripe, tested-fatal, tested-none, tested-some}
+use Rattle.decision.proofs.decide.Statement.{statement}
+use Rattle.decision.proofs.decide.Tie as tie
 
 add-n : tie.Need-add-n
 add-n c = search needs

@@ -1,14 +1,14 @@
--- `rebuilder::accepts` meets its contract: the number 0 is that of one answer.
+-- `decision::accepts` meets its contract: the number 0 is that of one answer.
 -- Assumes nothing.
 use mathlib.Core.Path.{sym, ap, _∙_}
 use mathlib.Core.Bool.{Bool}
 use borrow.Author.Needs.{needs}
 use lib.Dec.{eqb}
-use Rattle.rebuilder.specs.declared.Rebuilt.{Rebuilt}
-use Rattle.rebuilder.specs.Reports.{rebuiltReport}
+use Rattle.decision.specs.declared.Rebuilt.{Rebuilt}
+use Rattle.decision.specs.Reports.{rebuiltReport}
 use Rattle.card.proofs.Laws.{fault-refuses}
-use Rattle.rebuilder.proofs.accepts.Statement.{statement}
-use Rattle.rebuilder.proofs.accepts.Tie as tie
+use Rattle.decision.proofs.accepts.Statement.{statement}
+use Rattle.decision.proofs.accepts.Tie as tie
 
 -- the number of an answer, tested
 abbrev zero : Rebuilt → Bool

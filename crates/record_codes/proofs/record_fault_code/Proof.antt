@@ -1,12 +1,12 @@
--- `codes::records::record_fault_code` meets its contract. Assumes nothing.
+-- `record_codes::record_fault_code` meets its contract. Assumes nothing.
 use mathlib.Core.Path.{sym, ap, _∙_, subst}
 use Prim.Native.Nat.{_<_}
 use borrow.Author.Needs.{needs}
 use Rattle.record_checks.specs.declared.RecordFault.{RecordFault}
 use Rattle.record_checks.specs.Reports.{recordFaultReport}
-use Rattle.codes.specs.Coded.{value, coded}
-use Rattle.codes.proofs.records.record_fault_code.Statement.{statement}
-use Rattle.codes.proofs.records.record_fault_code.Tie as tie
+use Rattle.bounds.specs.Coded.{value, coded}
+use Rattle.record_codes.proofs.record_fault_code.Statement.{statement}
+use Rattle.record_codes.proofs.record_fault_code.Tie as tie
 
 enum-told : tie.Need-enum-told
 enum-told c = search needs

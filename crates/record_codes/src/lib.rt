@@ -1,12 +1,14 @@
-// The answers of the calls on record files as one number each.
+// The answers of the calls on record files as one number each, for a caller in C (see crate codes).
+//
+// Every function assumes that the value is below 2 ^ 32, so that the number fits into 64 bits.
 ghost use mathlib.Core.Path.{_≡_};
 ghost use Prim.Native.Nat.{_<_};
 ghost use Rattle.record_writer.specs.Reports.{writtenReport};
 ghost use Rattle.record_checks.specs.Reports.{recordFaultReport};
 ghost use Rattle.record.specs.Reports.{thereReport};
-ghost use Rattle.codes.specs.Coded.{value, coded};
-use crate::fault_code;
-use crate::joined;
+ghost use Rattle.bounds.specs.Coded.{value, coded};
+use codes::fault_code;
+use codes::joined;
 use record::BodyCheck;
 use record::RecordFault;
 use record::RecordWritten;

@@ -1,12 +1,12 @@
--- `codes::records::there_code` meets its contract. Assumes nothing.
+-- `record_codes::there_code` meets its contract. Assumes nothing.
 use mathlib.Core.Path.{sym, ap, _∙_, subst}
 use Prim.Native.Nat.{_<_}
 use borrow.Author.Needs.{needs}
 use Rattle.record.specs.declared.bodies.BodyCheck.{BodyCheck}
 use Rattle.record.specs.Reports.{thereReport}
-use Rattle.codes.specs.Coded.{value, coded}
-use Rattle.codes.proofs.records.there_code.Statement.{statement}
-use Rattle.codes.proofs.records.there_code.Tie as tie
+use Rattle.bounds.specs.Coded.{value, coded}
+use Rattle.record_codes.proofs.there_code.Statement.{statement}
+use Rattle.record_codes.proofs.there_code.Tie as tie
 
 enum-told : tie.Need-enum-told
 enum-told c = search needs

@@ -1,34 +1,28 @@
--- What the tests answer at each way out, what an accepted answer tells, and what the rebuilder answers for a good and for a bad card.
+-- What the tests answer at each way out, and what an accepted answer tells.
 -- Assumes nothing.
-use mathlib.Core.Path.{_≡_, refl, sym, ap, _∙_, subst}
-use mathlib.Core.Bool.{Bool, true, false, not}
-use mathlib.Core.Logic.{_⊎_, _≢_, ⊎-elim}
+use mathlib.Core.Path.{_≡_, sym, ap, _∙_, subst}
+use mathlib.Core.Bool.{true, false, not}
+use mathlib.Core.Logic.{_≢_, ⊎-elim}
 use mathlib.Core.List.{List, [], _∷_}
-use Prim.Native.Nat.{ℕ, suc, _+_, _*_, _^_, _≤_, _<_}
+use Prim.Native.Nat.{ℕ, _+_, _*_, _^_, _≤_, _<_}
 use native.Mathlib.Omega.{arith}
 use borrow.Author.Tests.{not-false}
 use lib.Dec.{T, eqb, ltb}
-use lib.ListN.{length, drop}
-use Rattle.gf2.specs.If.{if_then_else_}
+use lib.ListN.{length}
 use Rattle.gf2.specs.Sets.{size}
 use Rattle.gf2.proofs.Tests.{true-T, false-T, T-true, T-false, eqb-in, eqb-out, ltb-out}
 use Rattle.flat.specs.Lists.{Bytes}
-use Rattle.flat.specs.Cards.{Code, code, codeOf, disks, setOk, columnsIn}
+use Rattle.flat.specs.Cards.{Code, code, disks, setOk}
 use Rattle.flat.specs.Strips.{lengthOk}
 use Rattle.flat.specs.Erasures.{fatal}
-use Rattle.flat.specs.Rebuilding.{agreeing, restored}
+use Rattle.flat.specs.Rebuilding.{agreeing}
 use Rattle.flat.specs.Repairs.{consistent}
-use Rattle.flat.specs.Faults.{Report, accepted, refused, unlessRefused, cardReport, survivorsReport, rebuildReport, rebuildStripe}
+use Rattle.flat.specs.Faults.{Report, accepted, refused, survivorsReport}
 use Rattle.flat.proofs.Reports.{passed-test}
 use Rattle.flat.proofs.Lengths.{length-in}
 use Rattle.flat.proofs.Agreement.{agreeing-cases}
 use Rattle.flat.proofs.Theorems.{consistent-agrees}
-use Rattle.card.specs.declared.CardFault.{CardFault}
-use Rattle.card.specs.declared.CardCheck.the-variants.{Bad}
-use Rattle.card.specs.Reports.{faultReport, checkReport}
-use Rattle.card.proofs.Laws.{unless-fault}
-use Rattle.card.proofs.Callers.{GoodCard, good-with, bad-card}
-use Rattle.rebuilder.specs.Tests.{tested}
+use Rattle.decision.specs.Tests.{tested}
 
 -- ---- the survivors' report
 
@@ -123,26 +117,3 @@ pub zero-passed : (k m : ℕ) (columns : List ℕ) (L S : ℕ) (stripe : List �
     → eqb (r .number) 0 ≡ true → Passed k m columns L S stripe
 zero-passed k m columns L S stripe r e z =
     accepted-passed k m columns L S stripe (sym (ap (λ (x : Report). x .number) e) ∙ eqb-out (r .number) 0 (true-T {b = eqb (r .number) 0} z))
-
--- ---- a good card and a bad one
-
-pub good-report : (card : List ℕ) (k m L S : ℕ) (stripe : List ℕ) → GoodCard card k m
-    → rebuildReport card L S stripe ≡ tested (code k m (columnsIn m (drop 2 card))) L S stripe
-unfolding rebuildReport tested
-good-report card k m L S stripe g = good-with card k m (λ C. tested C L S stripe) g
-
-pub good-stripe : (card : List ℕ) (k m L S : ℕ) (stripe : List ℕ) (r : Report) → GoodCard card k m → r ≡ rebuildReport card L S stripe
-    → unlessRefused r (restored (code k m (columnsIn m (drop 2 card))) L S stripe (agreeing (code k m (columnsIn m (drop 2 card))) L S stripe)) stripe
-    ≡ rebuildStripe card L S stripe
-unfolding rebuildStripe
-good-stripe card k m L S stripe r g e =
-    ap (λ (C : Code). unlessRefused r (restored C L S stripe (agreeing C L S stripe)) stripe) (sym (g .is))
-    ∙ ap (λ (x : Report). unlessRefused x (restored (codeOf card) L S stripe (agreeing (codeOf card) L S stripe)) stripe) e
-
-pub bad-report : (card : List ℕ) (f : CardFault) (L S : ℕ) (stripe : List ℕ) → checkReport (Bad f) ≡ cardReport card → faultReport f ≡ rebuildReport card L S stripe
-unfolding rebuildReport tested
-bad-report card f L S stripe e = sym (bad-card card f (λ C. tested C L S stripe) e)
-
-pub bad-stripe : (card : List ℕ) (f : CardFault) (L S : ℕ) (stripe : List ℕ) → checkReport (Bad f) ≡ cardReport card → stripe ≡ rebuildStripe card L S stripe
-unfolding rebuildStripe
-bad-stripe card f L S stripe e = sym (unless-fault f (rebuildReport card L S stripe) _ stripe (bad-report card f L S stripe e))
