@@ -5,9 +5,9 @@
 ghost use mathlib.Core.Path.{_≡_};
 ghost use Prim.Native.Nat.{ℕ, _+_, _*_, _^_, _<_, _≤_};
 ghost use lib.ListN.{length, take};
-ghost use Rattle.flat.specs.Lists.{padded, field};
+ghost use Rattle.flat.specs.Lists.{field};
 ghost use Rattle.flat.specs.Cards.{code, columnsIn};
-ghost use Rattle.flat.specs.Spans.{row, rows, check, checks};
+ghost use Rattle.flat.specs.Spans.{row, rows, checks};
 use gf2::Basis;
 
 // Row i: data disk i with the parity disks whose column names it.

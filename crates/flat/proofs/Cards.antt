@@ -1,19 +1,19 @@
 -- Cards: the tests of a code, its columns in bytes, and what is known of an accepted card.
 -- Assumes nothing.
 use mathlib.Core.Path.{_≡_, refl, sym, ap, ap₂, _∙_, subst}
-use mathlib.Core.Bool.{Bool, true, false, not, _&&_}
-use mathlib.Core.List.{List, [], _∷_, _++_}
-use Prim.Native.Nat.{ℕ, zero, suc, _+_, _-_, _*_, _/_, _%_, _^_, _≤_, _<_}
+use mathlib.Core.Bool.{Bool, true, false, not}
+use mathlib.Core.List.{List, [], _∷_}
+use Prim.Native.Nat.{ℕ, zero, suc, _+_, _*_, _/_, _%_, _^_, _≤_, _<_}
 use native.Mathlib.Nat.{not-suc-le-zero}
 use native.Mathlib.Omega.{arith}
 use borrow.Author.Tests.{ltb-false, eqb-true, not-false, le-ltb, eq-eqb}
 use lib.Dec.{leb, ltb, eqb}
-use lib.ListN.{length, getD, take, drop}
+use lib.ListN.{length, getD, drop}
 use Rattle.gf2.specs.If.{if_then_else_}
 use Rattle.gf2.proofs.Tests.{true-T, and-out, ltb-out, leb-out}
 use Rattle.flat.specs.Lists.{Bytes, tabulate, each, bytes, field}
-use Rattle.flat.specs.Cards.{Code, code, countOk, columnOk, firstBad, cardLength, cardBytes, columnsIn, codeOf}
-use Rattle.flat.specs.Faults.{Report, accepted, refused, codeReport, cardReport}
+use Rattle.flat.specs.Cards.{Code, code, countOk, columnOk, firstBad, cardLength, columnsIn, codeOf}
+use Rattle.flat.specs.Faults.{Report, accepted, codeReport, cardReport}
 use Rattle.flat.proofs.Lists.{length-tabulate, tabulate-cong, field-two}
 use Rattle.flat.proofs.Reports.{passed, passed-number}
 

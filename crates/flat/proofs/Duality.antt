@@ -1,18 +1,17 @@
 -- Of a lost disk, either some equation among the survivors tells it, or some codeword inside the lost set holds it, and not both.
 -- Assumes nothing.
-use mathlib.Core.Path.{_≡_, refl, sym, ap, ap₂, _∙_, subst}
+use mathlib.Core.Path.{_≡_, sym, ap, _∙_, subst}
 use mathlib.Core.Bool.{Bool, true, false, not, _&&_}
 use mathlib.Core.Logic.{_⊎_, inl, inr, _≢_, _↔_, ⊎-elim}
-use Prim.Native.Nat.{ℕ, zero, suc, _+_, _^_, _≤_, _<_}
-use native.Mathlib.Omega.{arith}
+use Prim.Native.Nat.{ℕ, zero, _^_, _≤_, _<_}
 use lib.Dec.{T, eqb}
 use lib.Pow.{pow-pos}
 use Rattle.gf2.specs.If.{if_then_else_}
 use Rattle.gf2.specs.Sets.{bit, has, _⊕_, _⊆_, _∖_, over}
 use Rattle.gf2.specs.Span.{InSpan}
 use Rattle.gf2.specs.Within.{lowest}
-use Rattle.gf2.proofs.Tests.{dec, T-true, T-false, and-in, and-out, not-in, not-out, eqb-in, eqb-out, neqb-in, neqb-out, below-or}
-use Rattle.gf2.proofs.Bits.{bit-of-zero, bit-above, has-in, has-out, has-not, not-has}
+use Rattle.gf2.proofs.Tests.{dec, T-false, and-in, and-out, not-in, not-out, eqb-in, eqb-out, neqb-in, neqb-out, below-or}
+use Rattle.gf2.proofs.Bits.{bit-of-zero, bit-above, has-in, has-not, not-has}
 use Rattle.gf2.proofs.Xor.{⊕-lt, ⊕-zero, ⊕-cancel}
 use Rattle.gf2.proofs.Subsets.{⊆-in, ⊆-out, ∖-out, lowest-has}
 use Rattle.gf2.proofs.Sums.{over-cong, over-zero, over-bit, over-comm, over-over, over-less, if-has, in-select}
@@ -22,7 +21,7 @@ use Rattle.flat.specs.Erasures.{holdsBit, agreeOutside, survivors, fatal
 use Rattle.flat.specs.Equations.{equation}
 use Rattle.flat.specs.Spans.{codeword, row, rows, undetermined}
 use Rattle.flat.proofs.Lists.{length-tabulate}
-use Rattle.flat.proofs.Quantifiers.{Some, some-in, some-out, every-in, every-out, set-lt, bit-set, set-in, set-out}
+use Rattle.flat.proofs.Quantifiers.{some-in, some-out, every-in, every-out, set-lt, bit-set, set-in, set-out}
 use Rattle.flat.proofs.Words.{word-⊕, word-zero, codeword-lt, codeword-bit, codeword-zero, codeword-nonzero}
 use Rattle.flat.proofs.Rows.{select-rows, select-tabulate}
 use Rattle.flat.proofs.Fatal.{agree-in, agree-out, fatal-in, fatal-out}

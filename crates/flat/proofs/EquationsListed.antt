@@ -1,19 +1,17 @@
 -- The list of a disk's equations: its members, its order, and the enumeration by sets of parities that it equals. Every equation contains
 -- a listed one.
 -- Assumes nothing.
-use mathlib.Core.Path.{_≡_, refl, sym, ap, _∙_, subst}
-use mathlib.Core.Bool.{Bool, not, _&&_}
+use mathlib.Core.Path.{_≡_, sym, ap, _∙_, subst}
 use mathlib.Core.List.{List, map}
-use Prim.Native.Nat.{ℕ, suc, _+_, _/_, _^_, _≤_, _<_}
+use Prim.Native.Nat.{ℕ, suc, _/_, _^_, _≤_, _<_}
 use native.Mathlib.Nat.{add-comm, lt-of-not-le, not-le-of-lt}
 use native.Mathlib.Omega.{arith}
 use lib.Dec.{T}
-use lib.ListN.{length}
-use lib.Pow.{pow-pos, shr-lt, shr-mono}
-use Rattle.gf2.specs.Sets.{bit, has, size, _⊕_, _∖_, _⊆_}
+use lib.Pow.{shr-lt, shr-mono}
+use Rattle.gf2.specs.Sets.{has, size, _⊕_, _∖_, _⊆_}
 use Rattle.gf2.specs.Span.{select, Minimal}
 use Rattle.gf2.proofs.Bits.{bit-shift, ext-below}
-use Rattle.gf2.proofs.Subsets.{less-add, less-back, plus-has, plus-back}
+use Rattle.gf2.proofs.Subsets.{less-add, plus-has, plus-back}
 use Rattle.gf2.proofs.Sizes.{size-lt}
 use Rattle.flat.specs.Lists.{range, filter, orderedBy}
 use Rattle.flat.specs.Cards.{Code, disks}

@@ -1,27 +1,27 @@
 -- A set is fatal where a nonzero codeword lies inside it, and a minimal erasure where it is a minimal word of the codewords' span.
 -- Assumes nothing.
-use mathlib.Core.Path.{_≡_, refl, sym, ap, ap₂, _∙_, subst}
-use mathlib.Core.Bool.{Bool, not, _&&_, _||_}
+use mathlib.Core.Path.{_≡_, refl, sym, ap, _∙_, subst}
+use mathlib.Core.Bool.{not, _&&_, _||_}
 use mathlib.Core.Logic.{_⊎_, inl, inr, _≢_, _↔_}
 use mathlib.Core.List.{List, [], _∷_}
 use Prim.Native.Nat.{ℕ, _^_, _≤_, _<_}
 use lib.Dec.{T, eqb}
 use lib.Pow.{pow-pos}
-use Rattle.gf2.specs.Sets.{bit, has, _⊕_, _⊆_, _⊂_}
+use Rattle.gf2.specs.Sets.{has, _⊕_, _⊆_, _⊂_}
 use Rattle.gf2.specs.Span.{InSpan, Independent, Minimal}
 use Rattle.gf2.specs.Within.{within}
 use Rattle.gf2.proofs.Tests.{dec, and-in, and-out, not-in, not-out, unless-in, unless-out, eqb-in, eqb-out, neqb-in, neqb-out, below-or}
-use Rattle.gf2.proofs.Bits.{has-in, has-out, has-not, not-has, bit-above}
+use Rattle.gf2.proofs.Bits.{has-not, not-has, bit-above}
 use Rattle.gf2.proofs.Xor.{⊕-lt, ⊕-self, ⊕-zero, ⊕-cancel}
 use Rattle.gf2.proofs.Subsets.{⊆-in, ⊆-out, ⊆-refl, ⊆-trans, ⊆-antisym, ⊂-in, ⊂-out}
 use Rattle.gf2.proofs.Spans.{at, zero-in, first-in}
 use Rattle.gf2.proofs.Elimination.{within-spans, within-indep}
-use Rattle.flat.specs.Lists.{some, every}
+use Rattle.flat.specs.Lists.{some}
 use Rattle.flat.specs.Cards.{Code, disks}
 use Rattle.flat.specs.Erasures.{holdsBit, agreeOutside, fatal, minimalErasure}
 use Rattle.flat.specs.Spans.{codeword, rows}
-use Rattle.flat.proofs.Quantifiers.{Some, some-in, some-out, every-in, every-out}
-use Rattle.flat.proofs.Words.{word-⊕, word-zero, codeword-lt, codeword-bit, codeword-zero, codeword-nonzero}
+use Rattle.flat.proofs.Quantifiers.{some-in, some-out, every-in, every-out}
+use Rattle.flat.proofs.Words.{word-⊕, codeword-lt, codeword-bit, codeword-zero, codeword-nonzero}
 use Rattle.flat.proofs.Rows.{rows-span, rows-indep}
 
 module _ (C : Code) where

@@ -12,7 +12,7 @@ use lib.Seq.{take-at}
 use Rattle.gf2.specs.If.{if_then_else_}
 use Rattle.flat.specs.Cards.{codeOf}
 use Rattle.flat.specs.Records.{recordLength, recordBytes, bodyIn}
-use Rattle.flat.specs.Faults.{Report, accepted, refused, unlessRefused, recordWriteOutput, recordReport, bodyReport, bodyPart}
+use Rattle.flat.specs.Faults.{Report, refused, unlessRefused, recordWriteOutput, recordReport, bodyReport, bodyPart}
 use Rattle.flat.specs.Recorded.{RecordReadsBack, RecordWritesBack, BodyEmptyRefused, RecordByBytes}
 use Rattle.flat.proofs.Reports.{unless-accepted}
 use Rattle.flat.proofs.Parts.{length-record}

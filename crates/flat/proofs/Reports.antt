@@ -52,14 +52,10 @@ module _ {A : Type 0} where
   unfolding unlessRefused
   unless-other r new old e = ap (λ (b : Bool). if b then new else old) (sym e)
 
--- an accepted card's code is what the call works on, and a refused card's refusal is the call's
+-- an accepted card's code is what the call works on
 pub with-accepted : (card : List ℕ) (ws : List ℕ) (f : Code → Report) → cardReport card ≡ accepted ws → withCard card f ≡ f (codeOf card)
 unfolding withCard
 with-accepted card ws f e = unless-accepted (cardReport card) ws (f (codeOf card)) (cardReport card) e
-
-pub with-refused : (card : List ℕ) (n : ℕ) (vs : List ℕ) (f : Code → Report) → cardReport card ≡ refused (suc n) vs → withCard card f ≡ refused (suc n) vs
-unfolding withCard
-with-refused card n vs f e = unless-refused (cardReport card) n vs (f (codeOf card)) (cardReport card) e ∙ e
 
 -- a call that takes a card is accepted only where the card is
 pub with-out : (card ws : List ℕ) (f : Code → Report) → withCard card f ≡ accepted ws → (cardReport card .number ≡ 0) × (f (codeOf card) ≡ accepted ws)

@@ -1,20 +1,18 @@
 -- The card reader reads what the card writer wrote, and an accepted card is what the writer writes from what the reader answers.
 -- Assumes nothing.
-use mathlib.Core.Path.{_≡_, refl, sym, ap, ap₂, _∙_, subst}
-use mathlib.Core.Bool.{Bool, true, false, not}
+use mathlib.Core.Path.{_≡_, sym, ap, ap₂, _∙_}
+use mathlib.Core.Bool.{not}
 use mathlib.Core.List.{List, [], _∷_}
-use Prim.Native.Nat.{ℕ, suc, _+_, _*_, _^_, _≤_, _<_}
+use Prim.Native.Nat.{ℕ, suc, _<_}
 use native.Mathlib.Nat.{lt-of-lt-of-le}
 use native.Mathlib.Omega.{arith}
 use borrow.Author.Tests.{eqb-true, eq-eqb, not-false}
 use lib.Dec.{eqb}
 use lib.Pow.{pow-mono}
-use lib.ListN.{length, getD, take, drop, length-drop}
-use lib.Seq.{getD-drop}
-use Rattle.gf2.specs.If.{if_then_else_}
+use lib.ListN.{length, getD, take, drop}
 use Rattle.flat.specs.Lists.{Bytes, padded, each, bytes}
-use Rattle.flat.specs.Cards.{Code, code, firstBad, cardLength, cardBytes, columnsIn, codeOf}
-use Rattle.flat.specs.Faults.{Report, accepted, refused, cardReport, cardColumns, cardWriteReport, cardWriteBuffer}
+use Rattle.flat.specs.Cards.{Code, code, cardLength, cardBytes, columnsIn, codeOf}
+use Rattle.flat.specs.Faults.{accepted, cardReport, cardColumns, cardWriteReport, cardWriteBuffer}
 use Rattle.flat.specs.Theorems.{CardReadsBack, CardWritesBack}
 use Rattle.flat.proofs.Lists.{take-padded}
 use Rattle.flat.proofs.Reports.{passed, unless-accepted}

@@ -1,7 +1,7 @@
 -- Functionals on data words: the XOR of the bits of a word that a set names. One of them is a sum of given others, or some word is 0
 -- under all of these and 1 under it.
 -- Assumes nothing.
-use mathlib.Core.Path.{_≡_, refl, sym, ap, ap₂, _∙_, subst}
+use mathlib.Core.Path.{_≡_, sym, ap, ap₂, _∙_}
 use mathlib.Core.Logic.{_⊎_, inl, inr}
 use Prim.Native.Nat.{ℕ, zero, suc, _^_, _<_}
 use native.Mathlib.Omega.{arith}
@@ -12,7 +12,7 @@ use Rattle.gf2.specs.Sets.{bit, has, _⊕_, over}
 use Rattle.gf2.specs.Span.{InSpan}
 use Rattle.gf2.proofs.Bits.{bit-lt, two-cases, bit-⊕-bits, bit-of-zero, ext-below, has-out, has-not}
 use Rattle.gf2.proofs.Xor.{⊕-lt, ⊕-self, ⊕-zero, zero-⊕, ⊕-back}
-use Rattle.gf2.proofs.Sums.{over-cong, over-⊕, over-sum, over-lt, over-comm, over-power}
+use Rattle.gf2.proofs.Sums.{over-cong, over-⊕, over-sum, over-lt, over-power}
 use Rattle.flat.specs.Lists.{tabulate}
 use Rattle.flat.proofs.Quantifiers.{find, Some, All}
 

@@ -1,9 +1,9 @@
 -- The verdict call, the lister and the equation call share one verdict, stated over their reports and the slices at exit.
 -- Assumes nothing.
-use mathlib.Core.Path.{_≡_, refl, sym, ap, ap₂, _∙_, subst}
+use mathlib.Core.Path.{_≡_, refl, sym, ap, _∙_, subst}
 use mathlib.Core.Bool.{Bool, true, false, not}
 use mathlib.Core.Logic.{_↔_}
-use mathlib.Core.List.{List, [], _∷_, _++_}
+use mathlib.Core.List.{List, [], _∷_}
 use Prim.Native.Nat.{ℕ, _<_}
 use native.Mathlib.Nat.{lt-of-le-of-lt}
 use native.Mathlib.Omega.{arith}
@@ -17,7 +17,7 @@ use Rattle.gf2.proofs.Subsets.{⊆-trans, ⊆-le}
 use Rattle.flat.specs.Lists.{member}
 use Rattle.flat.specs.Cards.{Code, codeOf, disks, setOk}
 use Rattle.flat.specs.Erasures.{survivors, fatal, erasures}
-use Rattle.flat.specs.Equations.{equation, equations}
+use Rattle.flat.specs.Equations.{equations}
 use Rattle.flat.specs.Faults.{Report, accepted, refused, yesNo, cardReport, verdictReport, listReport, listSlice, erasuresReport, erasuresSlice, equationsReport, equationsSlice}
 use Rattle.flat.specs.Theorems.{VerdictListed, EquationListed, LongSlicesAccepted}
 use Rattle.flat.proofs.Reports.{passed, unless-accepted, with-accepted, list-fits, list-written}

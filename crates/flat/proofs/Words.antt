@@ -1,20 +1,20 @@
 -- What the disks hold is linear in the data, and so is the codeword of a data word.
 -- Assumes nothing.
-use mathlib.Core.Path.{_≡_, refl, sym, ap, ap₂, _∙_, subst}
+use mathlib.Core.Path.{_≡_, refl, sym, ap, ap₂, _∙_}
 use mathlib.Core.Bool.{Bool, true, false}
 use mathlib.Core.Logic.{_⊎_, inl, inr, _≢_}
-use Prim.Native.Nat.{ℕ, zero, suc, _+_, _-_, _*_, _/_, _%_, _^_, _≤_, _<_}
+use Prim.Native.Nat.{ℕ, _+_, _-_, _%_, _^_, _<_}
 use native.Mathlib.Nat.{mod-lt, zero-mod}
 use native.Mathlib.Omega.{arith}
 use borrow.Author.Tests.{lt-ltb, le-ltb}
 use lib.Dec.{T, ltb, eqb}
 use lib.Pow.{pow-pos}
 use Rattle.gf2.specs.If.{if_then_else_}
-use Rattle.gf2.specs.Sets.{bit, has, _⊕_, over}
+use Rattle.gf2.specs.Sets.{bit, _⊕_, over}
 use Rattle.gf2.proofs.Tests.{ltb-out}
-use Rattle.gf2.proofs.Bits.{bit-lt, two-cases, bit-cases, bit-⊕-bits, bit-of-zero, bit-mod, ext-below}
-use Rattle.gf2.proofs.Xor.{⊕-lt, ⊕-self, ⊕-zero, zero-⊕}
-use Rattle.gf2.proofs.Sums.{over-cong, over-sum, over-zero, over-bit, over-lt}
+use Rattle.gf2.proofs.Bits.{bit-lt, two-cases, bit-⊕-bits, bit-of-zero, bit-mod, ext-below}
+use Rattle.gf2.proofs.Xor.{⊕-lt}
+use Rattle.gf2.proofs.Sums.{over-cong, over-sum, over-zero, over-lt}
 use Rattle.flat.specs.Cards.{Code, disks, column, dataPart}
 use Rattle.flat.specs.Strips.{holds}
 use Rattle.flat.specs.Erasures.{holdsBit}
@@ -52,16 +52,6 @@ module _ (C : Code) where
       go : (b : Bool) → (if b then 0 else over (C .k) (column C (i - C .k)) (λ d. 0)) ≡ 0
       go true = refl
       go false = over-zero (C .k) (column C (i - C .k))
-
-  -- bit b of what a disk holds is what it holds of the bits b
-  pub bit-holds : (v : ℕ → ℕ) (i b : ℕ) → bit (holds C v i) b ≡ holds C (λ d. bit (v d) b) i
-  unfolding holds
-  bit-holds v i b = go (ltb i (C .k))
-    where
-      go : (t : Bool) → bit (if t then v i else over (C .k) (column C (i - C .k)) v) b
-          ≡ (if t then bit (v i) b else over (C .k) (column C (i - C .k)) (λ d. bit (v d) b))
-      go true = refl
-      go false = over-bit (C .k) (column C (i - C .k)) v b
 
   pub holds-lt : (w : ℕ) (v : ℕ → ℕ) (i : ℕ) → ((d : ℕ) → v d < 2 ^ w) → holds C v i < 2 ^ w
   unfolding holds

@@ -2,9 +2,9 @@
 -- A code is a flat XOR erasure code. A column is a parity check's bitmap over the data disks. A card is the document's word for a
 -- code's description as bytes. Sets of disks, their bits and their size are those of gf2/specs/Sets.antt.
 -- Assumes nothing.
-use mathlib.Core.Bool.{Bool, not, _&&_}
+use mathlib.Core.Bool.{Bool, _&&_}
 use mathlib.Core.List.{List, [], _∷_}
-use Prim.Native.Nat.{ℕ, zero, suc, _+_, _*_, _%_, _^_}
+use Prim.Native.Nat.{ℕ, suc, _+_, _*_, _%_, _^_}
 use lib.Dec.{leb, ltb}
 use lib.ListN.{getD, drop}
 use Rattle.gf2.specs.If.{if_then_else_}

@@ -4,7 +4,7 @@ use mathlib.Core.Path.{_≡_, refl, sym, ap, _∙_, subst}
 use mathlib.Core.Bool.{Bool, true, false}
 use mathlib.Core.Logic.{_⊎_, inl, inr, ⊎-elim, _↔_}
 use mathlib.Core.List.{List, [], _∷_, map}
-use Prim.Native.Nat.{ℕ, zero, suc, _+_, _%_, _≤_}
+use Prim.Native.Nat.{ℕ, zero, suc, _+_, _%_}
 use native.Mathlib.Nat.{mod-eq-of-lt, zero-add}
 use native.Mathlib.Omega.{arith}
 use lib.Dec.{T}
@@ -188,9 +188,3 @@ within-indep S =
     by-rows S (λ bs. Independent bs → Independent (within S bs)) (λ i. rw (within-nil S) tt)
     (λ b bs t ih i. rw (within-kept S b bs t) (ih (i .0), λ h. i .1 (within-spans S bs b .0 h .0)))
     (λ b bs f ih i. rw (within-dropped S b bs f) (ih (cleared-indep (lowest (b ∖ S)) b (dropped-has S b f .0) bs i)))
-
-pub within-length : (S : ℕ) (bs : List ℕ) → length (within S bs) ≤ length bs
-within-length S =
-    by-rows S (λ bs. length (within S bs) ≤ length bs) (rw (within-nil S) (omega arith))
-    (λ b bs t ih. rw (within-kept S b bs t) (omega arith))
-    (λ b bs f ih. rw (within-dropped S b bs f) (omega (arith, length-map bs (clear (lowest (b ∖ S)) b))))

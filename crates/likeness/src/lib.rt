@@ -3,7 +3,6 @@
 // Every two byte strings are legal arguments. What is answered for which input is said in
 // flat/specs/Faults.antt.
 ghost use mathlib.Core.Path.{_≡_};
-ghost use lib.ListN.{length};
 ghost use Rattle.flat.specs.Lists.{same};
 ghost use Rattle.flat.specs.Faults.{alikeReport as alikeOf};
 ghost use Rattle.likeness.specs.Reports.{alikeReport};

@@ -1,14 +1,14 @@
 -- The text that is printed, by the lister's answer.
 -- Assumes nothing.
-use mathlib.Core.Path.{_≡_, refl, sym, ap, ap₂, _∙_, subst}
+use mathlib.Core.Path.{_≡_, sym, ap, _∙_}
 use mathlib.Core.List.{List, [], _∷_}
-use Prim.Native.Nat.{ℕ, _+_, _*_, _≤_}
+use Prim.Native.Nat.{ℕ, _≤_}
 use native.Mathlib.Omega.{arith}
-use lib.ListN.{length, getD, take, drop, length-append}
+use lib.ListN.{length, take, drop, length-append}
 use Rattle.flat.specs.Lists.{padded}
 use Rattle.flat.specs.Cards.{Code, codeOf, cardLength}
 use Rattle.flat.specs.Erasures.{erasures, vector}
-use Rattle.flat.specs.Faults.{Report, accepted, refused, unlessRefused, cardReport, listReport, listSlice, erasuresReport, erasuresVector, erasuresSlice}
+use Rattle.flat.specs.Faults.{Report, accepted, refused, cardReport, listReport, listSlice, erasuresReport, erasuresVector, erasuresSlice}
 use Rattle.flat.proofs.Lists.{take-padded}
 use Rattle.flat.proofs.Reports.{unless-accepted, unless-refused, with-out, list-counted}
 use Rattle.flat.proofs.Cards.{Accepted, accepted-card, card-accepted, count-in}

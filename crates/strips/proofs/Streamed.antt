@@ -13,7 +13,6 @@ use Rattle.flat.specs.Strips.{byteOf}
 use Rattle.flat.specs.Repairs.{filled}
 use Rattle.blocks.specs.Totals.{total}
 use Rattle.blocks.proofs.Summed.{strip-within}
-use Rattle.blocks.proofs.Written.{Written}
 use Rattle.streams.specs.Streams.{Apart, streamed}
 use Rattle.streams.proofs.Laws.{streamed-written}
 use Rattle.strips.proofs.Written.{strip}

@@ -1,14 +1,14 @@
 -- `bases::checks` meets its contract: after j turns the first j checks stand in their places, and zeros behind them.
 -- Assumes nothing.
 use mathlib.Core.Path.{_≡_, refl, sym, ap, _∙_, subst}
-use Prim.Native.Nat.{ℕ, _+_, _-_, _*_, _^_, _≤_, _<_}
+use Prim.Native.Nat.{ℕ, _+_, _-_, _^_, _≤_, _<_}
 use native.Mathlib.Nat.{lt-of-lt-of-le}
 use native.Mathlib.Omega.{arith}
 use denote.Ref.{now}
-use lib.ListN.{length, take, length-set}
+use lib.ListN.{length, take}
 use lib.Pow.{pow-mono}
 use Rattle.gf2.proofs.Bits.{one-shifted}
-use Rattle.flat.specs.Lists.{padded, tabulate, field}
+use Rattle.flat.specs.Lists.{padded, tabulate}
 use Rattle.flat.specs.Cards.{code, columnsIn}
 use Rattle.flat.specs.Spans.{check, checks}
 use Rattle.flat.proofs.Lists.{fill-none, fill-more, length-tabulate, take-padded}

@@ -2,7 +2,7 @@
 -- Assumes nothing.
 use mathlib.Core.Path.{_≡_, refl, sym, ap, ap₂, _∙_, subst}
 use mathlib.Core.List.{List}
-use Prim.Native.Nat.{ℕ, _+_, _*_, _%_, _^_, _≤_, _<_}
+use Prim.Native.Nat.{ℕ, _*_, _%_, _^_, _≤_, _<_}
 use native.Mathlib.Omega.{arith}
 use borrow.Author.Needs.{needs}
 use denote.Ref.{now}
@@ -14,7 +14,7 @@ use Rattle.flat.specs.Faults.{unlessRefused, listSlice}
 use Rattle.flat.specs.Spans.{checks}
 use Rattle.flat.proofs.Rows.{checks-length}
 use Rattle.flat.proofs.Reports.{list-short, list-fits}
-use Rattle.words.specs.Listed.{listed, tally}
+use Rattle.words.specs.Listed.{listed}
 use Rattle.marks.specs.Marks.{noMarks}
 use Rattle.marks.specs.Sums.{sum}
 use Rattle.marks.proofs.Passes.{tally-small, tally-total}

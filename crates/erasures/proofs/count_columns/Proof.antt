@@ -1,5 +1,5 @@
 -- `erasures::count_columns` meets its contract. Assumes nothing.
-use mathlib.Core.Path.{_≡_, refl, sym, ap, _∙_}
+use mathlib.Core.Path.{refl, ap, _∙_}
 use mathlib.Core.List.{List}
 use Prim.Native.Nat.{ℕ, _+_}
 use native.Mathlib.Omega.{arith}
@@ -7,7 +7,7 @@ use borrow.Author.Needs.{needs}
 use denote.Ref.{now}
 use lib.ListN.{getD}
 use Rattle.flat.specs.Lists.{padded, tabulate}
-use Rattle.flat.specs.Cards.{Code, code, columnsIn}
+use Rattle.flat.specs.Cards.{code, columnsIn}
 use Rattle.flat.specs.Spans.{rows}
 use Rattle.words.specs.Listed.{tally}
 use Rattle.marks.specs.Marks.{noMarks}

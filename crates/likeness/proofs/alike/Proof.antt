@@ -1,13 +1,12 @@
 -- `likeness::alike` meets its contract. Assumes nothing.
-use mathlib.Core.Path.{_≡_, refl, sym, ap, ap₂, _∙_}
-use mathlib.Core.Bool.{Bool, true, false}
-use mathlib.Core.List.{List}
-use Prim.Native.Nat.{ℕ, _*_, _≤_}
+use mathlib.Core.Path.{_≡_, sym, ap, ap₂, _∙_}
+use mathlib.Core.Bool.{true, false}
+use Prim.Native.Nat.{ℕ}
 use native.Mathlib.Omega.{arith}
 use denote.Ref.{now}
-use lib.ListN.{length, drop}
+use lib.ListN.{drop}
 use Rattle.flat.specs.Lists.{same, padded}
-use Rattle.flat.specs.Cards.{Code, code, columnsIn}
+use Rattle.flat.specs.Cards.{code, columnsIn}
 use Rattle.flat.specs.Erasures.{vector}
 use Rattle.flat.specs.Alike.{alike}
 use Rattle.flat.specs.Faults.{yesNo}

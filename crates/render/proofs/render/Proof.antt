@@ -1,6 +1,6 @@
 -- `render::render` meets its contract: the lister's answer says which text is written.
 -- Assumes nothing.
-use mathlib.Core.Path.{_≡_, refl, sym, ap, ap₂, _∙_, subst}
+use mathlib.Core.Path.{_≡_, sym, ap, ap₂, _∙_}
 use mathlib.Core.List.{List, [], _∷_}
 use Prim.Native.Nat.{ℕ, _≤_}
 use native.Mathlib.Omega.{arith}
@@ -9,8 +9,7 @@ use lib.ListN.{length, getD, take}
 use lib.Seq.{length-take-le}
 use Rattle.flat.specs.Cards.{codeOf}
 use Rattle.flat.specs.Erasures.{erasures, vector}
-use Rattle.flat.specs.Faults.{Report, accepted, refused, erasuresReport, erasuresSlice}
-use Rattle.card.specs.Reports.{faultReport}
+use Rattle.flat.specs.Faults.{accepted, refused, erasuresReport}
 use Rattle.erasures.specs.Reports.{listedReport}
 use Rattle.text.specs.Text.{listingText, refusedText}
 use Rattle.text.specs.Answers.{textAnswer, textBuffer}

@@ -1,22 +1,20 @@
 -- `verdicts::verdict` meets its contract. Assumes nothing.
 use mathlib.Core.Path.{_≡_, refl, sym, ap, _∙_}
-use mathlib.Core.Bool.{Bool, true, false, not}
-use mathlib.Core.List.{List, [], _∷_}
-use Prim.Native.Nat.{ℕ, _+_, _*_, _^_, _≤_}
+use mathlib.Core.Bool.{true, false}
+use mathlib.Core.List.{List}
+use Prim.Native.Nat.{ℕ, _+_, _^_}
 use native.Mathlib.Omega.{arith}
 use borrow.Author.Needs.{needs}
 use borrow.Author.Tests.{not-true, not-false}
 use denote.Ref.{now}
 use lib.Dec.{ltb}
-use lib.ListN.{length, drop}
-use Rattle.gf2.specs.If.{if_then_else_}
-use Rattle.flat.specs.Cards.{Code, code, disks, setOk, columnsIn}
+use lib.ListN.{drop}
+use Rattle.flat.specs.Cards.{code, columnsIn}
 use Rattle.flat.specs.Erasures.{fatal}
-use Rattle.flat.specs.Faults.{accepted, refused, yesNo, cardReport, verdictReport}
-use Rattle.card.specs.declared.CardCheck.the-variants.{Good}
+use Rattle.flat.specs.Faults.{yesNo}
 use Rattle.card.specs.Reports.{checkReport}
 use Rattle.card.proofs.Laws.{rest}
-use Rattle.card.proofs.Callers.{GoodCard, good, good-with, bad-card}
+use Rattle.card.proofs.Callers.{GoodCard, good}
 use Rattle.verdicts.proofs.Laws.{verdict-good, verdict-bad}
 use Rattle.verdicts.proofs.verdict.Statement.{statement}
 use Rattle.verdicts.proofs.verdict.Tie as tie

@@ -1,7 +1,7 @@
 -- `blocks::places::sum_at` meets its contract: the block is the XOR of the strips at the places so far.
 -- Assumes nothing.
 use mathlib.Core.Path.{_≡_}
-use Prim.Native.Nat.{ℕ, _+_, _-_, _≤_}
+use Prim.Native.Nat.{_+_, _-_, _≤_}
 use native.Mathlib.Omega.{arith}
 use lib.ListN.{length, getD}
 use Rattle.blocks.proofs.Placed.{Totalled, totalled-none, totalled-more, totalled-all}
