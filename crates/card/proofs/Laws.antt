@@ -1,4 +1,4 @@
--- The report of a code and of a card at each way out of the tests, what a refusal leaves, and what the code's shift and slice give.
+-- The report of a code and of a card at each way out of the tests, what a refusal leaves, and the part of a card that the code lends.
 -- Assumes nothing.
 use mathlib.Core.Path.{_≡_, refl, sym, ap, _∙_}
 use mathlib.Core.Bool.{Bool, true, false}

@@ -1,4 +1,5 @@
--- What an accepted report tells of the tests that led to it, what carries a card's refusal, and the report of a list.
+-- What an accepted report tells of the tests that led to it, what a refused call leaves, what a call with a card answers, and the report of
+-- a list.
 -- Assumes nothing.
 use mathlib.Core.Path.{_≡_, refl, sym, ap, _∙_}
 use mathlib.Core.Bool.{Bool, true, false}
