@@ -1,13 +1,10 @@
 //! Encoder and rebuilder on random cards of up to 16 + 16 disks: strips of many lengths, consistent and spoiled
 //! stripes, lost strips with any bytes, and arguments with every kind of fault, several at once.
 
-mod reference;
-mod tools;
-
-use reference::{Code, Refusal};
-use tools::cards::{damaged_card, random_card, random_card_of};
-use tools::chance::Chance;
-use tools::check::{Call, Check};
+use crate::reference::{Code, Refusal};
+use crate::tools::cards::{damaged_card, random_card, random_card_of};
+use crate::tools::chance::Chance;
+use crate::tools::check::{Call, Check};
 
 /// Both sides of some powers of two.
 const STRIP_LENS: [usize; 20] = [1, 1, 2, 3, 4, 7, 8, 9, 15, 16, 17, 31, 32, 33, 63, 64, 65, 127, 128, 129];
@@ -18,7 +15,7 @@ fn any_stripe(chance: &mut Chance, code: &Code, strip_len: usize, lost: u32) -> 
     if chance.one_in(8) {
         return any;
     }
-    let mut stripe = reference::strips::encoded(code, strip_len, &any);
+    let mut stripe = crate::reference::strips::encoded(code, strip_len, &any);
     if chance.one_in(3) {
         let at = chance.below(stripe.len());
         stripe[at] ^= 1 << chance.below(8);
@@ -40,7 +37,7 @@ fn small_strips() {
     let mut check = Check::new("stripes, random cards");
     for _ in 0..30_000 {
         let card = random_card(&mut check.chance);
-        let code = reference::code(&card);
+        let code = crate::reference::code(&card);
         let known = code.as_ref().unwrap();
         for largest in [known.m, known.m, known.n()] {
             let size = check.chance.below(largest + 1);
@@ -58,7 +55,7 @@ fn long_strips() {
     for strip_len in [255, 256, 257, 1023, 1024, 1025, 4095, 4096, 4097, 8192, 32767, 65535, 65536] {
         for (k, m) in [(16, 16), (10, 5), (1, 16), (16, 1)] {
             let card = random_card_of(&mut check.chance, k, m);
-            let code = reference::code(&card);
+            let code = crate::reference::code(&card);
             let size = check.chance.below(m + 1);
             let lost = check.chance.set(k + m, size);
             let stripe = any_stripe(&mut check.chance, code.as_ref().unwrap(), strip_len, lost);
@@ -107,7 +104,7 @@ fn faults() {
     for _ in 0..60_000 {
         let chance = &mut check.chance;
         let card = if chance.one_in(5) { damaged_card(chance) } else { random_card(chance) };
-        let code = reference::code(&card);
+        let code = crate::reference::code(&card);
         let (n, m) = code.as_ref().map_or((32, 16), |code| (code.n(), code.m));
         let size = chance.below(m + 1);
         let mut lost = chance.set(n, size);

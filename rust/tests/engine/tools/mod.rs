@@ -1,7 +1,5 @@
 //! What the test files share: chance with a fixed seed, lent buffers with margins, and the calls beside the reference.
 
-#![allow(dead_code)] // each test file uses a part of it
-
 pub mod cards;
 pub mod chance;
 pub mod check;

@@ -1,12 +1,9 @@
 //! Record files: written ones, read ones, and files damaged in every field, cut and extended.
 
-mod reference;
-mod tools;
-
-use reference::records;
-use tools::cards::{card_of, damaged_card, random_card, random_card_of};
-use tools::chance::Chance;
-use tools::check::{Call, Check};
+use crate::reference::records;
+use crate::tools::cards::{card_of, damaged_card, random_card, random_card_of};
+use crate::tools::chance::Chance;
+use crate::tools::check::{Call, Check};
 
 /// A record of a random card of up to this many data and as many parity disks.
 fn any_record(chance: &mut Chance, largest: usize, strip_len: usize) -> Vec<u8> {
@@ -24,7 +21,7 @@ fn written() {
     for _ in 0..60_000 {
         let chance = &mut check.chance;
         let card = if chance.one_in(6) { damaged_card(chance) } else { random_card(chance) };
-        let (n, card_len) = reference::read_card(&card).map_or((32, 34), |(k, m, _)| (k + m, 2 + 2 * m));
+        let (n, card_len) = crate::reference::read_card(&card).map_or((32, 34), |(k, m, _)| (k + m, 2 + 2 * m));
         let strip_len = match chance.below(9) {
             0 => chance.pick(&[0, 65537, 65538, 1 << 32 | 1]),
             1 => chance.far_number(),

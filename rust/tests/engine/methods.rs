@@ -1,11 +1,8 @@
 //! The reference's quick methods beside its literal ones.
 
-mod reference;
-mod tools;
-
-use reference::{literal, quick, Code};
-use tools::cards::{every_card, random_card_of};
-use tools::chance::Chance;
+use crate::reference::{literal, quick, Code};
+use crate::tools::cards::{every_card, random_card_of};
+use crate::tools::chance::Chance;
 
 fn sorted(mut sets: Vec<u32>) -> Vec<u32> {
     sets.sort_unstable();
@@ -40,7 +37,7 @@ fn quick_methods_on_every_small_card() {
     let mut chance = Chance::new("methods, small");
     let cards: Vec<_> = (2..=6).flat_map(every_card).collect();
     for card in &cards {
-        same_methods(&reference::code(card).unwrap(), &mut chance);
+        same_methods(&crate::reference::code(card).unwrap(), &mut chance);
     }
     println!("methods: {} small cards", cards.len());
 }
@@ -52,7 +49,7 @@ fn quick_methods_on_random_cards() {
         let n = 7 + chance.below(3);
         let k = 1 + chance.below(n - 1);
         let card = random_card_of(&mut chance, k, n - k);
-        same_methods(&reference::code(&card).unwrap(), &mut chance);
+        same_methods(&crate::reference::code(&card).unwrap(), &mut chance);
     }
     println!("methods: 300 random cards of 7 to 9 disks");
 }

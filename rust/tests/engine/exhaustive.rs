@@ -1,11 +1,8 @@
 //! Every card of few disks, with every set, every disk, and every single byte of a stripe spoiled.
 
-mod reference;
-mod tools;
-
-use reference::{Code, Refusal};
-use tools::cards::every_card;
-use tools::check::{vector_of, Check, Vector};
+use crate::reference::{Code, Refusal};
+use crate::tools::cards::every_card;
+use crate::tools::check::{vector_of, Check, Vector};
 
 /// Cards of up to this many disks for the calls on sets.
 const SET_DISKS: usize = 7;
@@ -17,7 +14,7 @@ fn cards() {
     let mut check = Check::new("exhaustive, cards");
     for card in (2..=SET_DISKS).flat_map(every_card) {
         check.read_card(&card);
-        let (k, m, columns) = reference::read_card(&card).unwrap();
+        let (k, m, columns) = crate::reference::read_card(&card).unwrap();
         for out_len in 0..card.len() + 3 {
             check.write_card(k, m, &columns, out_len);
         }
@@ -63,18 +60,18 @@ fn sets() {
     let mut check = Check::new("exhaustive, sets");
     for n in 2..=SET_DISKS {
         for card in every_card(n) {
-            let code = reference::code(&card);
+            let code = crate::reference::code(&card);
             let known = code.as_ref().unwrap();
             every_set(&mut check, &card, &code, n);
-            let list = reference::minimal_erasures(known);
-            let vector = reference::vector(known, &list);
+            let list = crate::reference::minimal_erasures(known);
+            let vector = crate::reference::vector(known, &list);
             let count = list.len();
             let list = Ok((list, vector));
             for len in 0..count + 3 {
                 check.list(&card, &list, len);
             }
             for disk in 0..n + 2 {
-                let list = reference::equations(known, disk);
+                let list = crate::reference::equations(known, disk);
                 let count = list.as_ref().map_or(0, Vec::len);
                 for len in 0..count + 3 {
                     check.equations(&card, disk, &list, len);
@@ -88,7 +85,7 @@ fn every_loss(check: &mut Check, card: &[u8], code: &Result<Code, Refusal>, n: u
     let known = code.as_ref().unwrap();
     for lost in 0..1 << n {
         let content = check.chance.bytes(n * strip_len);
-        let mut stripe = reference::strips::encoded(known, strip_len, &content);
+        let mut stripe = crate::reference::strips::encoded(known, strip_len, &content);
         check.encode(card, strip_len, &content);
         // lost strips have any bytes
         for disk in (0..n).filter(|disk| lost >> disk & 1 == 1) {
@@ -123,7 +120,7 @@ fn stripes() {
     let mut check = Check::new("exhaustive, stripes");
     for n in 2..=STRIPE_DISKS {
         for card in every_card(n) {
-            let code = reference::code(&card);
+            let code = crate::reference::code(&card);
             for strip_len in 1..=2 {
                 every_loss(&mut check, &card, &code, n, strip_len);
                 every_length(&mut check, &card, &code, strip_len, 3 * n);

@@ -1,11 +1,8 @@
 //! Document 01's worked codes, C1 to C12, of the engine and of the reference.
 
-mod reference;
-mod tools;
-
+use crate::reference::strips;
+use crate::tools::cards::card_of;
 use bridgecrumb::{Error, Listing};
-use reference::strips;
-use tools::cards::card_of;
 
 /// The list and the vector of a code, by the engine and by the reference.
 fn lists(k: usize, columns: &[u16], list: &[u32], vector: &[usize]) {
@@ -16,16 +13,16 @@ fn lists(k: usize, columns: &[u16], list: &[u32], vector: &[usize]) {
     let told = bridgecrumb::minimal_erasures(&card, &mut out);
     assert_eq!(told, Ok(Listing { count: list.len(), vector: places }));
     assert_eq!(out, list);
-    let code = reference::code(&card).unwrap();
-    assert_eq!(reference::minimal_erasures(&code), list);
-    assert_eq!(reference::vector(&code, list), places);
+    let code = crate::reference::code(&card).unwrap();
+    assert_eq!(crate::reference::minimal_erasures(&code), list);
+    assert_eq!(crate::reference::vector(&code, list), places);
 }
 
 /// The verdict on a set, by the engine and by the reference.
 fn verdict(k: usize, columns: &[u16], set: u32, fatal: bool) {
     let card = card_of(k, columns.len(), columns);
     assert_eq!(bridgecrumb::is_fatal(&card, set), Ok(fatal));
-    assert_eq!(reference::verdict(&reference::code(&card).unwrap(), set), Ok(fatal));
+    assert_eq!(crate::reference::verdict(&crate::reference::code(&card).unwrap(), set), Ok(fatal));
 }
 
 #[test]
@@ -45,7 +42,7 @@ fn c2_equations() {
     let mut out = [0; 4];
     assert_eq!(bridgecrumb::equations(&card, 0, &mut out), Ok(4));
     assert_eq!(out, [22, 42, 76, 112]);
-    assert_eq!(reference::equations(&reference::code(&card).unwrap(), 0).unwrap(), out);
+    assert_eq!(crate::reference::equations(&crate::reference::code(&card).unwrap(), 0).unwrap(), out);
 }
 
 /// Rebuilding C1's code with strips of one byte, by the engine and by the reference.
@@ -76,9 +73,9 @@ fn c7_to_c10_stripes() {
 fn c11_card() {
     let accepted = bridgecrumb::read_card(&[0x02, 0x01, 0x03, 0x00]).unwrap();
     assert_eq!((accepted.k, accepted.m, accepted.columns), (2, 1, [3, 0, 0, 0, 0, 0, 0, 0, 0, 0, 0, 0, 0, 0, 0, 0]));
-    assert_eq!(reference::read_card(&[0x02, 0x01, 0x03, 0x00]), Ok((2, 1, vec![3])));
+    assert_eq!(crate::reference::read_card(&[0x02, 0x01, 0x03, 0x00]), Ok((2, 1, vec![3])));
     assert_eq!(bridgecrumb::read_card(&[0x02, 0x01, 0x04, 0x00]), Err(Error::Column(0)));
-    assert_eq!(reference::read_card(&[0x02, 0x01, 0x04, 0x00]), Err((5, Some(0))));
+    assert_eq!(crate::reference::read_card(&[0x02, 0x01, 0x04, 0x00]), Err((5, Some(0))));
 }
 
 #[test]
@@ -86,9 +83,9 @@ fn c12_short_slice() {
     let card = card_of(2, 2, &[1, 2]);
     assert_eq!(bridgecrumb::minimal_erasures(&card, &mut [0; 1]), Err(Error::ListShort(2)));
     assert!(bridgecrumb::minimal_erasures(&card, &mut [0; 2]).is_ok());
-    let list = reference::minimal_erasures(&reference::code(&card).unwrap());
-    assert_eq!(reference::fill(&list, &[0; 1]), Err((10, Some(2))));
-    assert_eq!(reference::fill(&list, &[0; 2]), Ok(list));
+    let list = crate::reference::minimal_erasures(&crate::reference::code(&card).unwrap());
+    assert_eq!(crate::reference::fill(&list, &[0; 1]), Err((10, Some(2))));
+    assert_eq!(crate::reference::fill(&list, &[0; 2]), Ok(list));
 }
 
 #[test]

@@ -2,9 +2,7 @@
 //!
 //! What every disk holds is worked out for every data word, and each answer is looked up among all words and
 //! sets by the paper's own definition (`literal`). For codes of more than `LITERAL_DISKS` disks that takes
-//! too long; `quick` then goes through the data words alone. tests/methods.rs compares the two.
-
-#![allow(dead_code)] // each test file uses a part of it
+//! too long; `quick` then goes through the data words alone. methods.rs compares the two.
 
 pub mod literal;
 pub mod quick;

@@ -2,14 +2,11 @@
 //! data words; the verdict call says so; it contains an entry of the engine's list; some lost disk has no entry of the
 //! engine's equations among the survivors; the rebuilder says 11.
 
-mod reference;
-mod tools;
-
+use crate::reference::{quick, Code};
+use crate::tools::cards::{every_card, random_card_of};
+use crate::tools::chance::Chance;
 use bridgecrumb::Error;
-use reference::{quick, Code};
 use std::time::Instant;
-use tools::cards::{every_card, random_card_of};
-use tools::chance::Chance;
 
 /// What the engine lists for a card.
 struct Lists {
@@ -46,7 +43,7 @@ impl Lists {
 fn rebuilder_says_11(chance: &mut Chance, card: &[u8], code: &Code, set: u32) -> bool {
     let strip_len = 1 + chance.below(20);
     let any = chance.bytes(code.n() * strip_len);
-    let encoded = reference::strips::encoded(code, strip_len, &any);
+    let encoded = crate::reference::strips::encoded(code, strip_len, &any);
     let mut stripe = encoded.clone();
     for disk in (0..code.n()).filter(|disk| set >> disk & 1 == 1) {
         stripe[disk * strip_len..(disk + 1) * strip_len].copy_from_slice(&any[..strip_len]);
@@ -109,7 +106,7 @@ fn small_cards() {
     let (mut sets, mut fatal) = (0, 0);
     for n in 2..=6 {
         for card in every_card(n) {
-            let code = reference::code(&card).unwrap();
+            let code = crate::reference::code(&card).unwrap();
             let lists = Lists::of(&card, n);
             for set in 0..1 << n {
                 sets += 1;
@@ -128,7 +125,7 @@ fn random_cards(name: &'static str, cards: usize, most: usize, sets_of_card: usi
     for _ in 0..cards {
         let (k, m) = (1 + chance.below(most), 1 + chance.below(most));
         let card = random_card_of(&mut chance, k, m);
-        let code = reference::code(&card).unwrap();
+        let code = crate::reference::code(&card).unwrap();
         let lists = Lists::of(&card, k + m);
         for _ in 0..sets_of_card {
             let set = any_set(&mut chance, &code, &lists);

@@ -1,17 +1,14 @@
 //! Random cards of up to 16 + 16 disks, and arguments with every kind of fault, several at once.
 
-mod reference;
-mod tools;
-
-use reference::{Code, Refusal};
-use tools::cards::{card_of, damaged_card, random_card, random_card_of, random_columns};
-use tools::chance::Chance;
-use tools::check::{vector_of, Call, Check};
+use crate::reference::{Code, Refusal};
+use crate::tools::cards::{card_of, damaged_card, random_card, random_card_of, random_columns};
+use crate::tools::chance::Chance;
+use crate::tools::check::{vector_of, Call, Check};
 
 /// A card, one in five damaged, and its code or its refusal.
 fn any_card(chance: &mut Chance, make: fn(&mut Chance) -> Vec<u8>) -> (Vec<u8>, Result<Code, Refusal>) {
     let card = if chance.one_in(5) { damaged_card(chance) } else { make(chance) };
-    let code = reference::code(&card);
+    let code = crate::reference::code(&card);
     (card, code)
 }
 
@@ -89,8 +86,8 @@ fn slices(chance: &mut Chance, count: usize) -> [usize; 4] {
 
 fn lists_of(check: &mut Check, card: &[u8], code: &Result<Code, Refusal>, disks: usize) {
     let list = code.as_ref().map_err(|refused| *refused).map(|code| {
-        let list = reference::minimal_erasures(code);
-        let vector = reference::vector(code, &list);
+        let list = crate::reference::minimal_erasures(code);
+        let vector = crate::reference::vector(code, &list);
         (list, vector)
     });
     let count = list.as_ref().map_or(3, |(list, _)| list.len());
@@ -104,7 +101,7 @@ fn lists_of(check: &mut Check, card: &[u8], code: &Result<Code, Refusal>, disks:
             1 => check.chance.far_number(),
             _ => check.chance.below(n),
         };
-        let list = code.as_ref().map_err(|refused| *refused).and_then(|code| reference::equations(code, disk));
+        let list = code.as_ref().map_err(|refused| *refused).and_then(|code| crate::reference::equations(code, disk));
         let count = list.as_ref().map_or(3, Vec::len);
         for len in slices(&mut check.chance, count) {
             check.equations(card, disk, &list, len);
@@ -127,7 +124,7 @@ fn largest_lists() {
     let mut check = Check::new("random, largest lists");
     for (k, m) in [(16, 16), (16, 15), (15, 16), (16, 1), (1, 16), (16, 8), (8, 16), (14, 14)] {
         let card = random_card_of(&mut check.chance, k, m);
-        let code = reference::code(&card);
+        let code = crate::reference::code(&card);
         lists_of(&mut check, &card, &code, 2);
     }
 }
@@ -149,7 +146,7 @@ fn verdicts() {
 
 /// A card that is often alike: data disks and columns in another order, or a column changed or put twice.
 fn near(chance: &mut Chance, card: &[u8]) -> Vec<u8> {
-    let (k, m, mut columns) = match reference::read_card(card) {
+    let (k, m, mut columns) = match crate::reference::read_card(card) {
         Ok(read) => read,
         Err(_) => return listed_card(chance),
     };
