@@ -18,7 +18,7 @@ use Rattle.flat.specs.Erasures.{fatal}
 use Rattle.flat.specs.Rebuilding.{agreeing}
 use Rattle.flat.specs.Repairs.{consistent}
 use Rattle.flat.specs.Faults.{Report, accepted, refused, survivorsReport}
-use Rattle.flat.proofs.Reports.{passed-test}
+use Rattle.flat.proofs.Reports.{passed-number}
 use Rattle.flat.proofs.Lengths.{length-in}
 use Rattle.flat.proofs.Agreement.{agreeing-cases}
 use Rattle.flat.proofs.Theorems.{consistent-agrees}
@@ -100,10 +100,10 @@ pub accepted-passed : (k m : ℕ) (columns : List ℕ) (L S : ℕ) (stripe : Lis
     → Passed k m columns L S stripe
 unfolding tested setOk disks survivorsReport
 accepted-passed k m columns L S stripe e =
-    let a = passed-test (not (lengthOk L)) 5 [] _ e in
-    let b = passed-test (not (ltb S (2 ^ (k + m)))) 7 [] _ (a .1) in
-    let c = passed-test (not (eqb (length stripe) ((k + m) * L))) 6 [] _ (b .1) in
-    let d = passed-test (fatal (code k m columns) S) 10 [] _ (c .1) in
+    let a = passed-number (not (lengthOk L)) 5 [] _ e in
+    let b = passed-number (not (ltb S (2 ^ (k + m)))) 7 [] _ (a .1) in
+    let c = passed-number (not (eqb (length stripe) ((k + m) * L))) 6 [] _ (b .1) in
+    let d = passed-number (fatal (code k m columns) S) 10 [] _ (c .1) in
     record {
       long = length-in L (not-false _ (a .0)) .0;
       inside = ltb-out S (2 ^ (k + m)) (true-T {b = ltb S (2 ^ (k + m))} (not-false _ (b .0)));

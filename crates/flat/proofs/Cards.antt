@@ -154,14 +154,10 @@ card-accepted card e =
     let whole = accepted (C .k ∷ C .m ∷ []) in
     let bad = firstBad (C .k) (C .columns) in
     let a = passed-number (ltb (length card) 2) 0 [] (codeReport C (eqb (length card) (cardLength (C .m))) whole) e in
-    let ea = sym (ap (λ (r : Report). r .number) a) ∙ e in
-    let b = passed-number (not (countOk (C .k))) 1 [] _ ea in
-    let eb = sym (ap (λ (r : Report). r .number) b) ∙ ea in
-    let c = passed-number (not (countOk (C .m))) 2 [] _ eb in
-    let ec = sym (ap (λ (r : Report). r .number) c) ∙ eb in
-    let d = passed-number (not (eqb (length card) (cardLength (C .m)))) 3 [] _ ec in
-    let ed = sym (ap (λ (r : Report). r .number) d) ∙ ec in
-    a ∙ b ∙ c ∙ d ∙ passed-number (ltb bad (C .m)) 4 (bad ∷ []) whole ed
+    let b = passed-number (not (countOk (C .k))) 1 [] _ (a .1) in
+    let c = passed-number (not (countOk (C .m))) 2 [] _ (b .1) in
+    let d = passed-number (not (eqb (length card) (cardLength (C .m)))) 3 [] _ (c .1) in
+    a .2 ∙ b .2 ∙ c .2 ∙ d .2 ∙ passed-number (ltb bad (C .m)) 4 (bad ∷ []) whole (d .1) .2
 
 pub report-accepted : (card : List ℕ) (C : Code) → codeOf card ≡ C → Sound C → length card ≡ cardLength (C .m)
     → cardReport card ≡ accepted (C .k ∷ C .m ∷ [])

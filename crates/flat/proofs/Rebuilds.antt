@@ -44,14 +44,10 @@ tested-number : (C : Code) (L S n : ℕ) (found : List (List ℕ)) → tested C 
 unfolding tested survivorsReport
 tested-number C L S n found e q =
     let a = passed-number (not (lengthOk L)) 5 [] _ e in
-    let ea = sym (ap (λ (r : Report). r .number) a) ∙ e in
-    let b = passed-number (not (setOk C S)) 7 [] _ ea in
-    let eb = sym (ap (λ (r : Report). r .number) b) ∙ ea in
-    let c = passed-number (not (eqb n (disks C * L))) 6 [] _ eb in
-    let ec = sym (ap (λ (r : Report). r .number) c) ∙ eb in
-    let d = passed-number (fatal C S) 10 [] (survivorsReport S found) ec in
-    let ed = sym (ap (λ (r : Report). r .number) d) ∙ ec in
-    let z : _≡_ {A = ℕ} 12 0 = subst (λ (l : List (List ℕ)). survivorsReport S l .number ≡ 0) q ed in
+    let b = passed-number (not (setOk C S)) 7 [] _ (a .1) in
+    let c = passed-number (not (eqb n (disks C * L))) 6 [] _ (b .1) in
+    let d = passed-number (fatal C S) 10 [] (survivorsReport S found) (c .1) in
+    let z : _≡_ {A = ℕ} 12 0 = subst (λ (l : List (List ℕ)). survivorsReport S l .number ≡ 0) q (d .1) in
     omega arith
 
 pub accepted-some : (card : List ℕ) (L S : ℕ) (stripe : List ℕ) → rebuildReport card L S stripe .number ≡ 0 → agreeing (codeOf card) L S stripe ≢ []

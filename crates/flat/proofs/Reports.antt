@@ -20,16 +20,11 @@ pub passed : (b : Bool) (n : ℕ) (vs ws : List ℕ) (rest : Report) → (if b t
 passed true n vs ws rest e = absurd (let z : suc n ≡ 0 = ap (λ (r : Report). r .number) e in omega arith)
 passed false n vs ws rest e = (refl, e)
 
--- the same of the number alone
+-- the same of the number alone; the whole is then the rest
 pub passed-number : (b : Bool) (n : ℕ) (vs : List ℕ) (rest : Report) → (if b then refused (suc n) vs else rest) .number ≡ 0
-    → (if b then refused (suc n) vs else rest) ≡ rest
+    → (b ≡ false) × (rest .number ≡ 0) × ((if b then refused (suc n) vs else rest) ≡ rest)
 passed-number true n vs rest e = absurd (omega arith)
-passed-number false n vs rest e = refl
-
-pub passed-test : (b : Bool) (n : ℕ) (vs : List ℕ) (rest : Report) → (if b then refused (suc n) vs else rest) .number ≡ 0
-    → (b ≡ false) × (rest .number ≡ 0)
-passed-test true n vs rest e = absurd (omega arith)
-passed-test false n vs rest e = (refl, e)
+passed-number false n vs rest e = (refl, e, refl)
 
 module _ {A : Type 0} where
   pub unless-accepted : (r : Report) (ws : List ℕ) (new old : A) → r ≡ accepted ws → unlessRefused r new old ≡ new

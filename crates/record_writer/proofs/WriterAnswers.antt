@@ -16,7 +16,7 @@ use Rattle.flat.specs.Cards.{Code, code, codeOf, disks, setOk, columnsIn}
 use Rattle.flat.specs.Strips.{lengthOk}
 use Rattle.flat.specs.Records.{recordLength, recordBytes}
 use Rattle.flat.specs.Faults.{Report, accepted, refused, unlessRefused, cardReport, recordWriteReport, recordWriteOutput}
-use Rattle.flat.proofs.Reports.{passed-test, unless-other}
+use Rattle.flat.proofs.Reports.{passed-number, unless-other}
 use Rattle.card.specs.declared.CardFault.{CardFault}
 use Rattle.card.specs.declared.CardCheck.the-variants.{Bad}
 use Rattle.card.specs.Reports.{faultReport, checkReport}
@@ -69,10 +69,10 @@ pub record Passed (k m L S n p : ℕ) : Type 0 where
 accepted-passed : (k m L S n p : ℕ) → written (code k m []) L S n p .number ≡ 0 → Passed k m L S n p
 unfolding written setOk disks
 accepted-passed k m L S n p e =
-    let a = passed-test (not (lengthOk L)) 5 [] _ e in
-    let b = passed-test (not (ltb S (2 ^ (k + m)))) 7 [] _ (a .1) in
-    let c = passed-test (not (eqb n ((k + m) * L))) 6 [] _ (b .1) in
-    let d = passed-test (ltb p (recordLength (code k m []) L S)) 15 [] _ (c .1) in
+    let a = passed-number (not (lengthOk L)) 5 [] _ e in
+    let b = passed-number (not (ltb S (2 ^ (k + m)))) 7 [] _ (a .1) in
+    let c = passed-number (not (eqb n ((k + m) * L))) 6 [] _ (b .1) in
+    let d = passed-number (ltb p (recordLength (code k m []) L S)) 15 [] _ (c .1) in
     record {
       length = length-in L (not-false _ (a .0));
       size = eqb-out n ((k + m) * L) (true-T {b = eqb n ((k + m) * L)} (not-false _ (c .0)));
