@@ -1,3 +1,4 @@
+#include <immintrin.h>
 #include <isa-l/raid.h>
 #include <liberasurecode/erasurecode.h>
 #include <liberasurecode/xor_code.h>
@@ -89,11 +90,20 @@ void kernel_decode(struct job *job)
         stop("liberasurecode's kernel does not decode");
 }
 
+/* ISA-L's AVX-512 code returns with the upper halves of the vector registers in use, and what runs after it in SSE code is
+ * slower for it, by up to 40 %: they are cleared, in ISA-L's time */
+__attribute__((target("avx"))) static void clear_upper_halves(void)
+{
+    _mm256_zeroupper();
+}
+
 void isal_encode(struct job *job)
 {
     for (int j = 0; j < job->card[1]; j++)
         if (xor_gen(isal_counts[j], (int)job->strip_len, isal_vectors[j]) != 0)
             stop("xor_gen fails");
+    if (__builtin_cpu_supports("avx"))
+        clear_upper_halves();
 }
 
 /* ---- the API */

@@ -15,6 +15,7 @@ use Rattle.flat.specs.Spans.{row, rows, check, checks}
 use Rattle.flat.proofs.Lists.{length-tabulate, getD-tabulate}
 use Rattle.flat.proofs.Rows.{row-lt, row-data, check-lt, check-parity}
 use Rattle.words.specs.Systematic.{Systematic}
+use Rattle.words.specs.Listed.{Listable}
 
 -- a table of which entry j has disk p i where j is i, and else not
 table-systematic : (n c : ℕ) (f p : ℕ → ℕ) → ((j i : ℕ) → i < c → bit (f j) (p i) ≡ (if eqb i j then 1 else 0)) → ((j : ℕ) → f j < 2 ^ n)
@@ -47,5 +48,5 @@ module _ (c count : ℕ) (bs out : List ℕ) (e : count ≡ c) (f : take c out �
   pub taken : take count out ≡ bs
   taken = ap (λ (n : ℕ). take n out) e ∙ f
 
-  pub markable : (n : ℕ) → c ≤ 16 → n ≤ 32 → n ≤ c + 16 → Systematic n bs → (count ≤ 16) × (n ≤ 32) × (n + 1 ≤ count + 17) × Systematic n (take count out)
-  markable n hc hn h s = (omega arith, hn, omega arith, subst (Systematic n) (sym taken) s)
+  pub listable : (n : ℕ) → c ≤ 16 → n ≤ 32 → n ≤ c + 16 → Systematic n bs → Listable n count out
+  listable n hc hn h s = (omega arith, hn, omega arith, subst (Systematic n) (sym taken) s)

@@ -3,18 +3,18 @@
 use mathlib.Core.Path.{_≡_, refl, ap}
 use mathlib.Core.Bool.{Bool, true, false, not, false≢true}
 use mathlib.Core.List.{List, [], _∷_, map}
-use Prim.Native.Nat.{ℕ, zero, suc, _+_, _-_, _*_, _^_, _≤_, _<_}
+use Prim.Native.Nat.{ℕ, suc, _-_, _*_, _^_, _≤_, _<_}
 use native.Mathlib.Omega.{arith}
-use borrow.Author.Tests.{ltb-true, leb-true, leb-false, eqb-true, not-false}
-use lib.Dec.{leb, ltb, eqb}
-use lib.ListN.{length, length-append, length-map}
+use borrow.Author.Tests.{ltb-true, not-false}
+use lib.Dec.{ltb, eqb}
+use lib.ListN.{length, length-map}
 use lib.Pow.{pow-mono}
 use Rattle.gf2.specs.If.{if_then_else_}
 use Rattle.gf2.specs.Sets.{has, size, _∖_}
 use Rattle.gf2.specs.Span.{select}
 use Rattle.gf2.specs.Within.{within}
 use Rattle.gf2.proofs.Sizes.{size-lt}
-use Rattle.flat.specs.Lists.{range, filter, each, orderedBy}
+use Rattle.flat.specs.Lists.{range, filter, each}
 use Rattle.flat.specs.Cards.{Code, disks, setOk, countOk, firstBad, codeOf, cardLength}
 use Rattle.flat.specs.Strips.{lengthOk}
 use Rattle.flat.specs.Erasures.{fatal, erasures}
@@ -27,52 +27,11 @@ use Rattle.flat.proofs.Rows.{rows-length, checks-length}
 use Rattle.flat.proofs.Cards.{count-in}
 use Rattle.flat.proofs.ErasuresListed.{erasures-enumerated}
 use Rattle.flat.proofs.EquationsListed.{equations-enumerated}
-use Rattle.marks.proofs.Filters.{filter-length, length-range}
+use Rattle.flat.proofs.Filters.{filter-length, length-range}
+use Rattle.flat.proofs.Totals.{ordered-most}
 use Rattle.bounds.specs.Coded.{value}
 
 -- ---- how long a list is
-
--- ordering by a key repeats no entry
-module _ (key : ℕ → ℕ) where
-  split : (a : ℕ) (xs : List ℕ)
-      → length (filter (λ x. eqb (key x) a) xs) + length (filter (λ x. leb (suc a) (key x)) xs) ≤ length (filter (λ x. leb a (key x)) xs)
-  unfolding filter
-  split a [] = omega arith
-  split a (x ∷ xs) = go (eqb (key x) a) (leb (suc a) (key x)) (leb a (key x)) refl refl refl (split a xs)
-    where
-      here : List ℕ
-      here = filter (λ x. eqb (key x) a) xs
-
-      above : List ℕ
-      above = filter (λ x. leb (suc a) (key x)) xs
-
-      from : List ℕ
-      from = filter (λ x. leb a (key x)) xs
-
-      go : (p q r : Bool) → eqb (key x) a ≡ p → leb (suc a) (key x) ≡ q → leb a (key x) ≡ r → length here + length above ≤ length from
-          → length (if p then x ∷ here else here) + length (if q then x ∷ above else above) ≤ length (if r then x ∷ from else from)
-      go true true r e f g h = absurd (omega (arith, eqb-true (key x) a e, leb-true (suc a) (key x) f))
-      go true false true e f g h = omega arith
-      go true false false e f g h = absurd (omega (arith, eqb-true (key x) a e, leb-false a (key x) g))
-      go false true true e f g h = omega arith
-      go false true false e f g h = absurd (omega (arith, leb-true (suc a) (key x) f, leb-false a (key x) g))
-      go false false true e f g h = omega arith
-      go false false false e f g h = omega arith
-
-  from-length : (xs : List ℕ) (n a : ℕ) → length (each (λ v. filter (λ x. eqb (key x) v) xs) (range a n)) ≤ length (filter (λ x. leb a (key x)) xs)
-  unfolding each range
-  from-length xs zero a = omega arith
-  from-length xs (suc n) a =
-      omega (
-        arith,
-        split a xs,
-        from-length xs n (suc a),
-        length-append (filter (λ x. eqb (key x) a) xs) (each (λ v. filter (λ x. eqb (key x) v) xs) (range (suc a) n)),
-      )
-
-  ordered-length : (b : ℕ) (xs : List ℕ) → length (orderedBy key b xs) ≤ length xs
-  unfolding orderedBy
-  ordered-length b xs = omega (arith, from-length xs b 0, filter-length (λ x. leb 0 (key x)) xs)
 
 -- one candidate for each data word but 0
 selectors-length : (bs : List ℕ) → length (selectors bs) ≤ 2 ^ length bs - 1
@@ -89,7 +48,7 @@ unfolding erasuresByWord
 by-word-length C =
     omega (
       arith,
-      ordered-length size (suc (disks C)) (map (select (rows C)) (selectors (rows C))),
+      ordered-most size (suc (disks C)) (map (select (rows C)) (selectors (rows C))),
       length-map (selectors (rows C)) (select (rows C)),
       selectors-length (rows C),
     )
@@ -104,7 +63,7 @@ by-parities-length C d =
     let holding = filter (λ p. has (select (checks C) p) d) (selectors (checks C)) in
     omega (
       arith,
-      ordered-length size (suc (disks C)) (map (λ p. select (checks C) p ∖ 2 ^ d) holding),
+      ordered-most size (suc (disks C)) (map (λ p. select (checks C) p ∖ 2 ^ d) holding),
       length-map holding (λ p. select (checks C) p ∖ 2 ^ d),
       filter-length (λ p. has (select (checks C) p) d) (selectors (checks C)),
       selectors-length (checks C),

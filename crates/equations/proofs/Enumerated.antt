@@ -22,9 +22,10 @@ use Rattle.flat.proofs.Rows.{checks-length}
 use Rattle.flat.proofs.CheckWords.{less-lt}
 use Rattle.flat.proofs.Members.{In, map-out}
 use Rattle.flat.proofs.EquationsListed.{equations-enumerated}
-use Rattle.words.specs.Listed.{kept, entry, keptFrom, entries, listed}
-use Rattle.marks.proofs.Filters.{filter-cong, filter-both}
-use Rattle.marks.proofs.Blocks.{ordered-same}
+use Rattle.words.specs.Listed.{kept, entry, keptFrom, entries, sizes, listed}
+use Rattle.flat.proofs.Filters.{filter-cong, filter-both}
+use Rattle.flat.proofs.Blocks.{ordered-same}
+use Rattle.marks.proofs.Keys.{listed-sizes}
 use Rattle.marks.proofs.Entries.{entries-small}
 use Rattle.bases.proofs.Systematic.{checks-systematic}
 
@@ -53,12 +54,12 @@ module _ (C : Code) (d : ℕ) where
         let h = size-lt (disks C) w (subst (λ (x : ℕ). x < 2 ^ disks C) (r .2) (less-lt C d l (select (checks C) (r .0)) (select-in (checks C) (r .0)))) in
         omega arith
 
-    entries-below : (w : ℕ) → In w (entries (checks C) (2 ^ d)) → size w < 18
+    entries-below : (w : ℕ) → In w (entries (checks C) (2 ^ d)) → size w < sizes
     unfolding disks
     entries-below = entries-small (disks C) (checks C) (2 ^ d) (checks-systematic C) (omega (arith, checks-length C))
 
-    pub listed-equations : listed (checks C) (2 ^ d) 18 ≡ equations C d
-    unfolding listed equationsByParities
+    pub listed-equations : listed (checks C) (2 ^ d) 0 ≡ equations C d
+    unfolding equationsByParities
     listed-equations =
-        ordered-same size (entries (checks C) (2 ^ d)) 18 (suc (disks C)) entries-below entries-fit
+        listed-sizes (checks C) (2 ^ d) ∙ ordered-same size (entries (checks C) (2 ^ d)) sizes (suc (disks C)) entries-below entries-fit
         ∙ ap (orderedBy size (suc (disks C))) entries-checks ∙ sym (equations-enumerated C d l)

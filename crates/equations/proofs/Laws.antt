@@ -1,4 +1,4 @@
--- Laws that the functions' proofs cite: the checks can be marked, and the call's report and slice by what the card check found.
+-- Laws that the functions' proofs cite: the checks can be listed, and the call's report and slice by what the card check found.
 -- Assumes nothing.
 use mathlib.Core.Path.{_≡_, sym, ap, ap₂, _∙_}
 use mathlib.Core.Bool.{Bool, not}
@@ -14,19 +14,19 @@ use Rattle.flat.specs.Equations.{equations}
 use Rattle.flat.specs.Faults.{Report, refused, unlessRefused, cardReport, listReport, listSlice, equationsReport, equationsSlice}
 use Rattle.flat.specs.Spans.{checks}
 use Rattle.flat.proofs.Reports.{unless-refused}
-use Rattle.words.specs.Systematic.{Systematic}
-use Rattle.bases.proofs.Systematic.{checks-systematic, markable}
+use Rattle.words.specs.Listed.{Listable}
+use Rattle.bases.proofs.Systematic.{checks-systematic, listable}
 use Rattle.card.specs.declared.CardFault.{CardFault}
 use Rattle.card.specs.declared.CardCheck.the-variants.{Bad}
 use Rattle.card.specs.Reports.{faultReport, checkReport}
 use Rattle.card.proofs.Laws.{unless-fault}
 use Rattle.card.proofs.Callers.{GoodCard, good-with, bad-card}
 
-pub checks-markable : (k m count : ℕ) (bs out : List ℕ) → k ≤ 16 → m ≤ 16 → count ≡ m → take m out ≡ checks (code k m bs)
-    → (count ≤ 16) × (k + m ≤ 32) × (k + m + 1 ≤ count + 17) × Systematic (k + m) (take count out)
+pub checks-listable : (k m count : ℕ) (bs out : List ℕ) → k ≤ 16 → m ≤ 16 → count ≡ m → take m out ≡ checks (code k m bs)
+    → Listable (k + m) count out
 unfolding disks
-checks-markable k m count bs out hk hm e f =
-    markable m count (checks (code k m bs)) out e f (k + m) hm (omega arith) (omega arith) (checks-systematic (code k m bs))
+checks-listable k m count bs out hk hm e f =
+    listable m count (checks (code k m bs)) out e f (k + m) hm (omega arith) (omega arith) (checks-systematic (code k m bs))
 
 -- the answer on a code
 abbrev answer : ℕ → ℕ → Code → Report

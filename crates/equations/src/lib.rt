@@ -13,6 +13,7 @@ ghost use Rattle.flat.specs.Faults.{unlessRefused, listReport, listSlice, equat
 ghost use Rattle.equations.specs.Reports.{toldReport};
 use card::CardCheck;
 use card::CardFault;
+use marks::KEYS;
 
 // The equation call's answer: the count, the card's fault, a disk that the code lacks, or the count
 // needed where the slice is shorter.
@@ -34,11 +35,12 @@ fn list_columns(columns: &[u8], k: usize, m: usize, disk: usize, out: &mut [u32]
     let basis = bases::checks(columns, k, m);
     let set = 1u32 << disk;
     let mut marks = [0u64; 1024];
-    let count = marks::total(marks::mark(basis, k + m, set, &mut marks));
+    let places = lists::starts(marks::mark(basis, k + m, set, 0, &mut marks));
+    let count = places[KEYS];
     if out.len() < count {
         return Told::Short(count);
     }
-    lists::fill(basis, set, &marks, out);
+    lists::fill(basis, set, 0, &marks, places, out);
     Told::Count(count)
 }
 

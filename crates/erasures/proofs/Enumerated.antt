@@ -2,12 +2,12 @@
 -- Assumes nothing.
 use mathlib.Core.Path.{_≡_, sym, ap, _∙_, subst}
 use mathlib.Core.List.{List, map}
-use Prim.Native.Nat.{ℕ, suc, _+_, _-_, _^_, _≤_, _<_}
+use Prim.Native.Nat.{ℕ, suc, _+_, _-_, _*_, _^_, _≤_, _<_}
 use native.Mathlib.Nat.{add-comm}
 use native.Mathlib.Omega.{arith}
 use lib.Dec.{eqb}
 use lib.ListN.{length, getD}
-use Rattle.gf2.specs.Sets.{size, _∖_, _⊆_}
+use Rattle.gf2.specs.Sets.{size}
 use Rattle.gf2.specs.Span.{InSpan, select}
 use Rattle.gf2.specs.Within.{within}
 use Rattle.gf2.proofs.Subsets.{zero-⊆, ∖-zero}
@@ -16,15 +16,16 @@ use Rattle.flat.specs.Lists.{range, tabulate, filter, orderedBy}
 use Rattle.flat.specs.Cards.{Code, disks}
 use Rattle.flat.specs.Erasures.{erasures, places, vector}
 use Rattle.flat.specs.Spans.{rows, selectors, erasuresByWord}
-use Rattle.flat.proofs.Lists.{length-tabulate, getD-tabulate, tabulate-cong, map-range}
+use Rattle.flat.proofs.Lists.{length-tabulate, tabulate-cong, map-range}
 use Rattle.flat.proofs.Rows.{rows-length, rows-indep}
 use Rattle.flat.proofs.Fatal.{word-below}
 use Rattle.flat.proofs.Least.{selectors-out}
 use Rattle.flat.proofs.Members.{In, map-out}
 use Rattle.flat.proofs.ErasuresListed.{erasures-enumerated}
-use Rattle.words.specs.Listed.{kept, entry, keptFrom, entries, listed, tally}
-use Rattle.marks.proofs.Filters.{filter-cong, map-cong}
-use Rattle.marks.proofs.Blocks.{ordered-same, ordered-count}
+use Rattle.words.specs.Listed.{kept, entry, keptFrom, entries, sizes, listed, tally}
+use Rattle.flat.proofs.Filters.{filter-cong, map-cong}
+use Rattle.flat.proofs.Blocks.{ordered-same, ordered-count}
+use Rattle.marks.proofs.Keys.{listed-sizes, tally-sizes}
 use Rattle.marks.proofs.Entries.{kept-inside, entries-small}
 use Rattle.bases.proofs.Systematic.{rows-systematic}
 
@@ -53,24 +54,24 @@ module _ (C : Code) where
       omega arith
 
   module _ (hm : C .m ≤ 16) where
-    entries-below : (w : ℕ) → In w (entries (rows C) 0) → size w < 18
+    entries-below : (w : ℕ) → In w (entries (rows C) 0) → size w < sizes
     unfolding disks
     entries-below = entries-small (disks C) (rows C) 0 (rows-systematic C) (omega (arith, rows-length C))
 
-    pub listed-erasures : listed (rows C) 0 18 ≡ erasures C
-    unfolding listed erasuresByWord
+    pub listed-erasures : listed (rows C) 0 0 ≡ erasures C
+    unfolding erasuresByWord
     listed-erasures =
-        ordered-same size (entries (rows C) 0) 18 (suc (disks C)) entries-below entries-fit
+        listed-sizes (rows C) 0 ∙ ordered-same size (entries (rows C) 0) sizes (suc (disks C)) entries-below entries-fit
         ∙ ap (orderedBy size (suc (disks C))) entries-rows ∙ sym (erasures-enumerated C)
 
     -- the count of size i + 1 is the tally's
-    pub vector-tally : tabulate (C .m) (λ i. getD (tally (rows C) 0 18) (i + 1) 0) ≡ vector C
-    unfolding vector places tally listed
+    pub vector-tally : tabulate (C .m) (λ i. getD (tally (rows C) 0 0) ((i + 1) * sizes) 0) ≡ vector C
+    unfolding vector places
     vector-tally =
-        tabulate-cong (C .m) (λ i. getD (tally (rows C) 0 18) (i + 1) 0) (λ i. count (1 + i))
-        (λ i l. getD-tabulate 18 (λ s. length (filter (λ w. eqb (size w) s) (entries (rows C) 0))) (i + 1) (omega arith)
-        ∙ sym (ordered-count size (entries (rows C) 0) (i + 1) 18 (omega arith))
-        ∙ ap (λ (l : List ℕ). length (filter (λ w. eqb (size w) (i + 1)) l)) listed-erasures ∙ ap count (add-comm i 1))
+        tabulate-cong (C .m) (λ i. getD (tally (rows C) 0 0) ((i + 1) * sizes) 0) (λ i. count (1 + i))
+        (λ i l. tally-sizes (rows C) 0 (i + 1) (omega arith)
+        ∙ sym (ordered-count size (entries (rows C) 0) (i + 1) sizes (omega arith))
+        ∙ ap (λ (l : List ℕ). length (filter (λ w. eqb (size w) (i + 1)) l)) (sym (listed-sizes (rows C) 0) ∙ listed-erasures) ∙ ap count (add-comm i 1))
         ∙ sym (map-range count 1 (C .m))
       where
         count : ℕ → ℕ

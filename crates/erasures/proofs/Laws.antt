@@ -7,17 +7,17 @@ use native.Mathlib.Omega.{arith}
 use lib.ListN.{take}
 use Rattle.flat.specs.Cards.{code, disks}
 use Rattle.flat.specs.Spans.{rows}
-use Rattle.words.specs.Systematic.{Systematic}
-use Rattle.bases.proofs.Systematic.{rows-systematic, taken, markable}
+use Rattle.words.specs.Listed.{Listable}
+use Rattle.bases.proofs.Systematic.{rows-systematic, taken, listable}
 
 module _ (k m count : ℕ) (bs out : List ℕ) where
   -- what is taken of the sixteen rows
   pub taken-rows : count ≡ k → take k out ≡ rows (code k m bs) → take count out ≡ rows (code k m bs)
   taken-rows e f = taken k count (rows (code k m bs)) out e f
 
-  -- they can be marked
-  pub rows-markable : k ≤ 16 → m ≤ 16 → count ≡ k → take k out ≡ rows (code k m bs)
-      → (count ≤ 16) × (k + m ≤ 32) × (k + m + 1 ≤ count + 17) × Systematic (k + m) (take count out)
+  -- they can be listed
+  pub rows-listable : k ≤ 16 → m ≤ 16 → count ≡ k → take k out ≡ rows (code k m bs)
+      → Listable (k + m) count out
   unfolding disks
-  rows-markable hk hm e f =
-      markable k count (rows (code k m bs)) out e f (k + m) hk (omega arith) (omega arith) (rows-systematic (code k m bs))
+  rows-listable hk hm e f =
+      listable k count (rows (code k m bs)) out e f (k + m) hk (omega arith) (omega arith) (rows-systematic (code k m bs))

@@ -10,9 +10,12 @@ ghost use Rattle.flat.specs.Lists.{padded, tabulate};
 ghost use Rattle.flat.specs.Cards.{code, columnsIn};
 ghost use Rattle.flat.specs.Erasures.{erasures, vector};
 ghost use Rattle.flat.specs.Faults.{unlessRefused, listReport, listSlice, erasuresReport, erasuresVector, erasuresSlice};
+ghost use Rattle.words.specs.Listed.{sizes};
 ghost use Rattle.erasures.specs.Reports.{listedReport};
 use card::CardCheck;
 use card::CardFault;
+use marks::KEYS;
+use marks::SIZES;
 
 // The lister's answer: the count, the card's fault, or the count needed where the slice is shorter.
 pub enum Listed {
@@ -28,14 +31,14 @@ pub struct Listing {
     pub vector: [usize; 17],
 }
 
-// The vector out of the counts of entries by size.
-fn vector(counts: [usize; 18], m: usize) -> [usize; 17]
+// The vector out of the counts of entries by key. The mask is empty, so that each size is one key.
+fn vector(counts: [usize; KEYS], m: usize) -> [usize; 17]
     requires { ⌜ m ≤ 16 ⌝ }
-    ensures { λ r. ⌜ r ≡ padded 17 (tabulate m (λ i. getD counts (i + 1) 0)) ⌝ }
+    ensures { λ r. ⌜ r ≡ padded 17 (tabulate m (λ i. getD counts ((i + 1) * sizes) 0)) ⌝ }
 {
     let mut out = [0usize; 17];
     for i in 0..m {
-        out[i] = counts[i + 1];
+        out[i] = counts[(i + 1) * SIZES];
     }
     out
 }
@@ -49,15 +52,16 @@ fn list_columns(columns: &[u8], k: usize, m: usize, out: &mut [u32]) -> Listing
 {
     let basis = bases::rows(columns, k, m);
     let mut marks = [0u64; 1024];
-    let counts = marks::mark(basis, k + m, 0, &mut marks);
-    let count = marks::total(counts);
+    let counts = marks::mark(basis, k + m, 0, 0, &mut marks);
+    let places = lists::starts(counts);
+    let count = places[KEYS];
     if out.len() < count {
         return Listing {
             answer: Listed::Short(count),
             vector: [0usize; 17],
         };
     }
-    lists::fill(basis, 0, &marks, out);
+    lists::fill(basis, 0, 0, &marks, places, out);
     Listing {
         answer: Listed::Count(count),
         vector: vector(counts, m),
@@ -86,5 +90,5 @@ pub fn count_columns(columns: &[u8], k: usize, m: usize) -> [usize; 17]
 {
     let basis = bases::rows(columns, k, m);
     let mut marks = [0u64; 1024];
-    vector(marks::mark(basis, k + m, 0, &mut marks), m)
+    vector(marks::mark(basis, k + m, 0, 0, &mut marks), m)
 }

@@ -22,6 +22,9 @@ pub mod Duality
 pub mod Undetermined
 pub mod Members
 pub mod Order
+pub mod Filters
+pub mod Blocks
+pub mod Totals
 pub mod Least
 pub mod ErasuresListed
 pub mod CheckWords

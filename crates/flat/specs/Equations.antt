@@ -20,11 +20,7 @@ unfoldable pub minimalEquation : Code → ℕ → ℕ → Bool
 unfolding some disks _⊂_ equation
 minimalEquation C d E = equation C d E && not (some (2 ^ disks C) (λ F. (F ⊂ E) && equation C d F))
 
--- the key of their order
-abbrev pub key : ℕ → ℕ
-key = size
-
 -- all such equations, smaller size first, then smaller set number
 unfoldable pub equations : Code → ℕ → List ℕ
 unfolding orderedBy size filter range disks minimalEquation
-equations C d = orderedBy key (suc (disks C)) (filter (minimalEquation C d) (range 0 (2 ^ disks C)))
+equations C d = orderedBy size (suc (disks C)) (filter (minimalEquation C d) (range 0 (2 ^ disks C)))

@@ -53,6 +53,11 @@ unfoldable pub orderedBy : (ℕ → ℕ) → ℕ → List ℕ → List ℕ
 unfolding each filter range
 orderedBy key b xs = each (λ v. filter (λ x. eqb (key x) v) xs) (range 0 b)
 
+-- the sum of numbers
+unfoldable pub sum : List ℕ → ℕ
+sum [] = 0
+sum (x ∷ xs) = x + sum xs
+
 -- are the two lists equal?
 unfoldable pub same : List ℕ → List ℕ → Bool
 same [] [] = true

@@ -12,7 +12,6 @@ use Rattle.gf2.specs.Span.{select}
 use Rattle.gf2.specs.Within.{within}
 use Rattle.flat.specs.Lists.{some, setOf, range, tabulate, filter, orderedBy}
 use Rattle.flat.specs.Cards.{Code, disks, column}
-use Rattle.flat.specs.Equations.{key}
 use Rattle.flat.specs.Erasures.{holdsBit, agreeOutside}
 
 -- the codeword of a data word: the disks that hold 1
@@ -58,5 +57,5 @@ erasuresByWord C = orderedBy size (suc (disks C)) (map (select (rows C)) (select
 unfoldable pub equationsByParities : Code → ℕ → List ℕ
 unfolding orderedBy size disks select checks selectors filter has _∖_
 equationsByParities C d =
-    orderedBy key (suc (disks C))
+    orderedBy size (suc (disks C))
     (map (λ p. select (checks C) p ∖ 2 ^ d) (filter (λ p. has (select (checks C) p) d) (selectors (checks C))))

@@ -10,7 +10,7 @@ use native.Mathlib.Omega.{arith}
 use borrow.Author.Tests.{eq-eqb, ne-eqb}
 use lib.Bits.{bitXor}
 use lib.Dec.{T, eqb}
-use lib.ListN.{length, getD, take}
+use lib.ListN.{length, getD, take, length-map}
 use lib.Pow.{pow-pos, shl-exact}
 use Rattle.gf2.specs.If.{if_then_else_}
 use Rattle.gf2.specs.Sets.{bit, has, _⊕_, _∖_, _⊆_}
@@ -153,6 +153,22 @@ module _ (w left : ℕ) (start rows : List ℕ) (f : left ≢ 0) (h : left < 2 ^
       let b = getD rows (lowest left) 0 in
       subst (Going w start) (sym (picked-map (clear (lowest (b ∖ w)) b) rows (left ⊕ 2 ^ lowest left)))
       (going-dropped w b start (picked rows (left ⊕ 2 ^ lowest left)) first n)
+
+-- the same as the code has it: row i is the lowest that is left, and disk j its lowest outside w
+pub loop-more : (w left i j next : ℕ) (start rows rows′ : List ℕ) → left ≢ 0 → left < 2 ^ length rows → Going w start (picked rows left)
+    → i ≡ lowest left → next ≡ left ⊕ 2 ^ lowest left → j ≡ lowest (getD rows i 0 ∖ w) → rows′ ≡ map (clear j (getD rows i 0)) rows
+    → (T (getD rows i 0 ⊆ w) → ⊥) → Going w start (picked rows′ next)
+loop-more w left i j next start rows rows′ f h g e n d r k =
+    rw (r, d, n, e) (loop-dropped w left start rows f h g (rw (← e) k))
+
+-- where one row is left after one that is not inside w, the loop would end with it
+pub loop-two : (w left : ℕ) (start rows : List ℕ) → left ≢ 0 → left < 2 ^ length rows → Going w start (picked rows left)
+    → left ⊕ 2 ^ lowest left ≢ 0 → left ⊕ 2 ^ lowest left ≡ 2 ^ lowest (left ⊕ 2 ^ lowest left)
+    → (T (getD rows (lowest left) 0 ⊆ w) → ⊥) → true ≡ eqb (length (within w start)) 1
+loop-two w left start rows f h g n e k =
+    let next = left ⊕ 2 ^ lowest left in
+    loop-last w next start (map (clear (lowest (getD rows (lowest left) 0 ∖ w)) (getD rows (lowest left) 0)) rows) n
+    (rw length-map (omega (arith, next-lt left f))) (loop-dropped w left start rows f h g k) (ap (λ (y : ℕ). y ⊕ 2 ^ lowest next) e ∙ ⊕-self (2 ^ lowest next))
 
 -- ---- the loop begins with the rows that x picks, and what it tells of them is so of all rows
 

@@ -10,8 +10,8 @@ ghost use Rattle.words.specs.Systematic.{Systematic};
 use gf2::Basis;
 
 // Whether one row is left inside the word w that x selects: whether the word is minimal.
-// Only the rows that x selects are looked at. Their XOR stays w: the last of them is w itself, and a row
-// inside w before the last leaves another word inside.
+// Only the rows that x selects are looked at. Their XOR stays w: the last of them is w itself, which
+// needs no clearing to be known, and a row inside w before the last leaves another word inside.
 pub fn minimal(basis: Basis, x: u32, w: u32) -> bool
     requires { ⌜ (basis .count ≤ 16) × ((n : ℕ) × Systematic n (take (basis .count) (basis .rows))) ⌝ }
     requires { ⌜ (x ≢ 0) × (x < 2 ^ basis .count) × (w ≡ select (take (basis .count) (basis .rows)) x) ⌝ }
@@ -28,6 +28,9 @@ pub fn minimal(basis: Basis, x: u32, w: u32) -> bool
         let b = rows[i as usize];
         if gf2::inside(b, w) {
             return false;
+        }
+        if next == 1u32 << gf2::lowest(next) {
+            return true;
         }
         rows = gf2::cleared_all(gf2::lowest(gf2::outside(b, w)), b, rows);
         left = next;

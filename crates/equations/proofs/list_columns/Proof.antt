@@ -14,13 +14,13 @@ use Rattle.flat.specs.Faults.{unlessRefused, listSlice}
 use Rattle.flat.specs.Spans.{checks}
 use Rattle.flat.proofs.Rows.{checks-length}
 use Rattle.flat.proofs.Reports.{list-short, list-fits}
-use Rattle.words.specs.Listed.{listed}
+use Rattle.words.specs.Listed.{keys, listed, starts}
 use Rattle.marks.specs.Marks.{noMarks}
-use Rattle.marks.specs.Sums.{sum}
-use Rattle.marks.proofs.Passes.{tally-small, tally-total}
+use Rattle.marks.proofs.Passes.{tally-small}
+use Rattle.lists.proofs.Filling.{starts-last}
 use Rattle.bases.proofs.Systematic.{taken}
 use Rattle.equations.proofs.Enumerated.{listed-equations}
-use Rattle.equations.proofs.Laws.{checks-markable}
+use Rattle.equations.proofs.Laws.{checks-listable}
 use Rattle.equations.proofs.list_columns.Statement.{statement}
 use Rattle.equations.proofs.list_columns.Tie as tie
 
@@ -51,18 +51,18 @@ unfolding noMarks
 mark-requires c κs =
     let a = start (c .before) .args in
     let b = c .before .checks in
-    (checks-markable (a .k) (a .m) _ _ _ (omega arith) (omega arith) (b .ensures .0) (b .ensures .1), refl)
+    (checks-listable (a .k) (a .m) _ _ _ (omega arith) (omega arith) (b .ensures .0) (b .ensures .1), refl)
 
 -- the set of the one disk, as the code has it
 abbrev shifted : tie.After-checks → ℕ
 shifted c = (1 * 2 ^ start c .args .disk) % 2 ^ 32
 
 -- the checks and the set, as the code hands them on
-listed-is : (c : tie.After-checks) → listed (take (c .checks .result .count) (c .checks .result .rows)) (shifted c) 18 ≡ equations (codeAt c) (start c .args .disk)
+listed-is : (c : tie.After-checks) → listed (take (c .checks .result .count) (c .checks .result .rows)) (shifted c) 0 ≡ equations (codeAt c) (start c .args .disk)
 unfolding disks
 listed-is c =
     let b = c .checks in
-    ap₂ (λ (l : List ℕ) (S : ℕ). listed l S 18) (taken (start c .args .m) _ _ _ (b .ensures .0) (b .ensures .1)) (one-shifted (start c .args .disk) (omega arith))
+    ap₂ (λ (l : List ℕ) (S : ℕ). listed l S 0) (taken (start c .args .m) _ _ _ (b .ensures .0) (b .ensures .1)) (one-shifted (start c .args .disk) (omega arith))
     ∙ listed-equations (codeAt c) (start c .args .disk) (omega arith) (omega arith)
 
 rows-few : (c : tie.After-checks) → length (take (c .checks .result .count) (c .checks .result .rows)) ≤ 16
@@ -70,15 +70,18 @@ rows-few c =
     let b = c .checks in
     omega (arith, ap length (taken (start c .args .m) _ _ _ (b .ensures .0) (b .ensures .1)), checks-length (codeAt c))
 
-total-requires : tie.Need-total-requires
-total-requires c κs s h =
-    let k = c .before .before .before in
-    subst (λ (l : List ℕ). getD l s 0 < 65536) (sym (c .before .mark .ensures .0)) (tally-small _ _ 18 s (rows-few k) h)
+starts-requires : tie.Need-starts-requires
+starts-requires c κs v h =
+    subst (λ (l : List ℕ). getD l v 0 < 65536) (sym (c .before .mark .ensures .0)) (tally-small _ _ 0 v (rows-few (c .before .before .before)) h)
 
--- what the total counts
-counted : (c : tie.After-total) → c .total .result ≡ length (equations (codeAt (c .before .before .before .before)) (start (c .before .before .before .before) .args .disk))
+array-read-count : tie.Need-array-read-count
+array-read-count c = search needs
+
+-- what is counted
+counted : (c : tie.After-starts) → getD (c .starts .result) keys 0 ≡ length (equations (codeAt (c .before .before .before .before)) (start (c .before .before .before .before) .args .disk))
 counted c =
-    c .total .ensures ∙ ap sum (c .before .before .mark .ensures .0) ∙ tally-total _ _ 18 ∙ ap length (listed-is (c .before .before .before .before))
+    ap (λ (l : List ℕ). getD l keys 0) (c .starts .ensures ∙ ap starts (c .before .before .mark .ensures .0))
+    ∙ starts-last _ _ 0 _ (listed-is (c .before .before .before .before))
 
 returns : tie.Need-returns
 unfolding unlessRefused
@@ -92,7 +95,8 @@ slice-aggregate-fill c = search needs
 fill-requires : tie.Need-fill-requires
 fill-requires c κs =
     let t = c .before .before .before in
-    ((omega arith, t .before .before .mark .ensures .1), omega (arith, ap length (listed-is (t .before .before .before .before)), counted t))
+    let m = t .before .before .mark in
+    ((omega arith, m .ensures .1), (t .starts .ensures ∙ ap starts (m .ensures .0), omega (arith, ap length (listed-is (t .before .before .before .before)), counted t)))
 
 same-length : tie.Need-same-length
 same-length c = search needs
@@ -117,7 +121,8 @@ list-columns-spec =
     add-mark
     slice-aggregate-mark
     mark-requires
-    total-requires
+    starts-requires
+    array-read-count
     returns
     slice-aggregate-fill
     fill-requires

@@ -1,7 +1,7 @@
 -- `erasures::count_columns` meets its contract. Assumes nothing.
 use mathlib.Core.Path.{refl, ap, _∙_}
 use mathlib.Core.List.{List}
-use Prim.Native.Nat.{ℕ, _+_}
+use Prim.Native.Nat.{ℕ, _+_, _*_}
 use native.Mathlib.Omega.{arith}
 use borrow.Author.Needs.{needs}
 use denote.Ref.{now}
@@ -9,10 +9,10 @@ use lib.ListN.{getD}
 use Rattle.flat.specs.Lists.{padded, tabulate}
 use Rattle.flat.specs.Cards.{code, columnsIn}
 use Rattle.flat.specs.Spans.{rows}
-use Rattle.words.specs.Listed.{tally}
+use Rattle.words.specs.Listed.{sizes, tally}
 use Rattle.marks.specs.Marks.{noMarks}
 use Rattle.erasures.proofs.Enumerated.{vector-tally}
-use Rattle.erasures.proofs.Laws.{taken-rows, rows-markable}
+use Rattle.erasures.proofs.Laws.{taken-rows, rows-listable}
 use Rattle.erasures.proofs.count_columns.Statement.{statement}
 use Rattle.erasures.proofs.count_columns.Tie as tie
 
@@ -30,7 +30,7 @@ unfolding noMarks
 mark-requires c κs =
     let a = c .before .before .before .args in
     let b = c .before .rows in
-    (rows-markable (a .k) (a .m) _ _ _ (omega arith) (omega arith) (b .ensures .0) (b .ensures .1), refl)
+    (rows-listable (a .k) (a .m) _ _ _ (omega arith) (omega arith) (b .ensures .0) (b .ensures .1), refl)
 
 vector-requires : tie.Need-vector-requires
 vector-requires c κs = search needs
@@ -41,8 +41,8 @@ returns c =
     let b = c .before .before .before .before .rows in
     let C = code (a .k) (a .m) (columnsIn (a .m) (now (a .columns))) in
     c .vector .ensures
-    ∙ ap (λ (l : List ℕ). padded 17 (tabulate (a .m) (λ i. getD l (i + 1) 0)))
-    (c .before .before .mark .ensures .0 ∙ ap (λ (l : List ℕ). tally l 0 18) (taken-rows (a .k) (a .m) _ _ _ (b .ensures .0) (b .ensures .1)))
+    ∙ ap (λ (l : List ℕ). padded 17 (tabulate (a .m) (λ i. getD l ((i + 1) * sizes) 0)))
+    (c .before .before .mark .ensures .0 ∙ ap (λ (l : List ℕ). tally l 0 0) (taken-rows (a .k) (a .m) _ _ _ (b .ensures .0) (b .ensures .1)))
     ∙ ap (padded 17) (vector-tally C (omega arith))
 
 pub count-columns-spec : {M : Type 1} → statement M

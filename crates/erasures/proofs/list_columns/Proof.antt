@@ -2,7 +2,7 @@
 -- Assumes nothing.
 use mathlib.Core.Path.{_≡_, refl, sym, ap, _∙_, subst}
 use mathlib.Core.List.{List}
-use Prim.Native.Nat.{ℕ, _+_, _<_}
+use Prim.Native.Nat.{ℕ, _+_, _*_, _<_}
 use native.Mathlib.Omega.{arith}
 use borrow.Author.Needs.{needs}
 use denote.Ref.{now}
@@ -14,12 +14,12 @@ use Rattle.flat.specs.Faults.{unlessRefused, listSlice}
 use Rattle.flat.specs.Spans.{rows}
 use Rattle.flat.proofs.Rows.{rows-length}
 use Rattle.flat.proofs.Reports.{list-short, list-fits}
-use Rattle.words.specs.Listed.{listed, tally}
+use Rattle.words.specs.Listed.{sizes, keys, listed, tally, starts}
 use Rattle.marks.specs.Marks.{noMarks}
-use Rattle.marks.specs.Sums.{sum}
-use Rattle.marks.proofs.Passes.{tally-small, tally-total}
+use Rattle.marks.proofs.Passes.{tally-small}
+use Rattle.lists.proofs.Filling.{starts-last}
 use Rattle.erasures.proofs.Enumerated.{listed-erasures, vector-tally}
-use Rattle.erasures.proofs.Laws.{taken-rows, rows-markable}
+use Rattle.erasures.proofs.Laws.{taken-rows, rows-listable}
 use Rattle.erasures.proofs.list_columns.Statement.{statement}
 use Rattle.erasures.proofs.list_columns.Tie as tie
 
@@ -37,7 +37,7 @@ unfolding noMarks
 mark-requires c κs =
     let a = c .before .before .before .before .args in
     let b = c .before .rows in
-    (rows-markable (a .k) (a .m) _ _ _ (omega arith) (omega arith) (b .ensures .0) (b .ensures .1), refl)
+    (rows-listable (a .k) (a .m) _ _ _ (omega arith) (omega arith) (b .ensures .0) (b .ensures .1), refl)
 
 -- what is known once the entries are marked
 abbrev start : tie.After-mark → tie.Start
@@ -46,21 +46,25 @@ start c = c .before .before .before .before .before
 abbrev codeAt : tie.After-mark → Code
 codeAt c = code (start c .args .k) (start c .args .m) (columnsIn (start c .args .m) (now (start c .args .columns)))
 
-tallied : (c : tie.After-mark) → c .mark .result ≡ tally (rows (codeAt c)) 0 18
+tallied : (c : tie.After-mark) → c .mark .result ≡ tally (rows (codeAt c)) 0 0
 tallied c =
     let b = c .before .before .rows in
-    c .mark .ensures .0 ∙ ap (λ (l : List ℕ). tally l 0 18) (taken-rows (start c .args .k) (start c .args .m) _ _ _ (b .ensures .0) (b .ensures .1))
+    c .mark .ensures .0 ∙ ap (λ (l : List ℕ). tally l 0 0) (taken-rows (start c .args .k) (start c .args .m) _ _ _ (b .ensures .0) (b .ensures .1))
 
-total-requires : tie.Need-total-requires
-total-requires c κs s h =
-    subst (λ (l : List ℕ). getD l s 0 < 65536) (sym (tallied (c .before)))
-    (tally-small (rows (codeAt (c .before))) 0 18 s (omega (arith, rows-length (codeAt (c .before)))) h)
+starts-requires : tie.Need-starts-requires
+starts-requires c κs v h =
+    subst (λ (l : List ℕ). getD l v 0 < 65536) (sym (tallied (c .before)))
+    (tally-small (rows (codeAt (c .before))) 0 0 v (omega (arith, rows-length (codeAt (c .before)))) h)
 
--- what the total counts
-counted : (c : tie.After-total) → c .total .result ≡ length (erasures (codeAt (c .before .before)))
+array-read-count : tie.Need-array-read-count
+array-read-count c = search needs
+
+-- what is counted
+counted : (c : tie.After-starts) → getD (c .starts .result) keys 0 ≡ length (erasures (codeAt (c .before .before)))
 counted c =
     let C = codeAt (c .before .before) in
-    c .total .ensures ∙ ap sum (tallied (c .before .before)) ∙ tally-total (rows C) 0 18 ∙ ap length (listed-erasures C (omega arith))
+    ap (λ (l : List ℕ). getD l keys 0) (c .starts .ensures ∙ ap starts (tallied (c .before .before)))
+    ∙ starts-last (rows C) 0 0 (erasures C) (listed-erasures C (omega arith))
 
 returns : tie.Need-returns
 unfolding unlessRefused padded
@@ -69,14 +73,17 @@ returns c = (list-short (erasures (codeAt (c .before .before .before))) _ _ (cou
 slice-aggregate-fill : tie.Need-slice-aggregate-fill
 slice-aggregate-fill c = search needs
 
+-- the list, of the rows as the code has them
+listed-is : (c : tie.After-mark) → let b = c .before .before .rows in listed (take (b .result .count) (b .result .rows)) 0 0 ≡ erasures (codeAt c)
+listed-is c =
+    let b = c .before .before .rows in
+    ap (λ (l : List ℕ). listed l 0 0) (taken-rows (start c .args .k) (start c .args .m) _ _ _ (b .ensures .0) (b .ensures .1)) ∙ listed-erasures (codeAt c) (omega arith)
+
 fill-requires : tie.Need-fill-requires
 fill-requires c κs =
     let t = c .before .before .before in
-    let b = t .before .before .before .before .rows in
-    let a = start (t .before .before) .args in
-    let e : listed (take (b .result .count) (b .result .rows)) 0 18 ≡ erasures (codeAt (t .before .before)) =
-    ap (λ (l : List ℕ). listed l 0 18) (taken-rows (a .k) (a .m) _ _ _ (b .ensures .0) (b .ensures .1)) ∙ listed-erasures (codeAt (t .before .before)) (omega arith) in
-    ((omega arith, t .before .before .mark .ensures .1), omega (arith, ap length e, counted t))
+    let m = t .before .before .mark in
+    ((omega arith, m .ensures .1), (t .starts .ensures ∙ ap starts (m .ensures .0), omega (arith, ap length (listed-is (t .before .before)), counted t)))
 
 vector-requires : tie.Need-vector-requires
 vector-requires c κs = search needs
@@ -89,16 +96,13 @@ unfolding unlessRefused
 returns-2 c =
     let t = c .before .before .before .before .before .before .before in
     let C = codeAt (t .before .before) in
-    let b = t .before .before .before .before .rows in
-    let a = start (t .before .before) .args in
-    let e : listed (take (b .result .count) (b .result .rows)) 0 18 ≡ erasures C =
-    ap (λ (l : List ℕ). listed l 0 18) (taken-rows (a .k) (a .m) _ _ _ (b .ensures .0) (b .ensures .1)) ∙ listed-erasures C (omega arith) in (
+    let a = start (t .before .before) .args in (
       list-fits (erasures C) _ _ (counted t) (c .before .before .before .before .before .before .if1 .left),
       (
         c .vector .ensures
-            ∙ ap (λ (l : List ℕ). padded 17 (tabulate (a .m) (λ i. getD l (i + 1) 0))) (tallied (t .before .before))
+            ∙ ap (λ (l : List ℕ). padded 17 (tabulate (a .m) (λ i. getD l ((i + 1) * sizes) 0))) (tallied (t .before .before))
             ∙ ap (padded 17) (vector-tally C (omega arith)),
-        c .before .before .before .fill .ensures ∙ ap (λ (l : List ℕ). listSlice l (now (a .out))) e,
+        c .before .before .before .fill .ensures ∙ ap (λ (l : List ℕ). listSlice l (now (a .out))) (listed-is (t .before .before)),
       ),
     )
 
@@ -110,7 +114,8 @@ list-columns-spec =
     add-mark
     slice-aggregate-mark
     mark-requires
-    total-requires
+    starts-requires
+    array-read-count
     returns
     slice-aggregate-fill
     fill-requires

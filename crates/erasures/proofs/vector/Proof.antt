@@ -1,18 +1,19 @@
 -- `erasures::vector` meets its contract: after i turns the first i places are filled, and zeros stand behind them.
 -- Assumes nothing.
 use mathlib.Core.Path.{_≡_, refl, ap, _∙_}
-use Prim.Native.Nat.{ℕ, _+_, _-_, _≤_}
+use Prim.Native.Nat.{ℕ, _+_, _-_, _*_, _≤_}
 use native.Mathlib.Omega.{arith}
+use borrow.Author.Needs.{needs}
 use lib.ListN.{length, getD}
 use Rattle.flat.specs.Lists.{padded, tabulate}
 use Rattle.flat.proofs.Lists.{fill-none, fill-more}
-use borrow.Author.Needs.{needs}
+use Rattle.words.specs.Listed.{sizes, keys}
 use Rattle.erasures.proofs.vector.Statement.{statement}
 use Rattle.erasures.proofs.vector.Tie as tie
 
 abbrev Inv-loop : tie.InvT-loop
 Inv-loop m counts out₀ i₀ out i =
-    (i ≤ m) × (length out ≡ 17) × (length counts ≡ 18) × (out ≡ padded 17 (tabulate i (λ j. getD counts (j + 1) 0)))
+    (i ≤ m) × (length out ≡ 17) × (length counts ≡ keys) × (out ≡ padded 17 (tabulate i (λ j. getD counts ((j + 1) * sizes) 0)))
 
 abbrev μ-loop : tie.MeasureT-loop
 μ-loop m counts out₀ i₀ out i = m - i
@@ -32,6 +33,9 @@ array-read-out c = search needs
 mul-out-2 : tie.Need-mul-out-2 Inv-loop μ-loop
 mul-out-2 c = search needs
 
+mul-out-3 : tie.Need-mul-out-3 Inv-loop μ-loop
+mul-out-3 c = search needs
+
 array-write-out : tie.Need-array-write-out Inv-loop μ-loop
 array-write-out c = search needs
 
@@ -49,7 +53,7 @@ returns : tie.Need-returns Inv-loop μ-loop
 returns c =
     let l = c .before .loop in
     let e : l .i ≡ c .before .before .args .m = omega arith in
-    l .inv .3 ∙ ap (λ (n : ℕ). padded 17 (tabulate n (λ j. getD (c .before .before .args .t1) (j + 1) 0))) e
+    l .inv .3 ∙ ap (λ (n : ℕ). padded 17 (tabulate n (λ j. getD (c .before .before .args .t1) ((j + 1) * sizes) 0))) e
 
 pub vector-spec : {M : Type 1} → statement M
 vector-spec =
@@ -60,8 +64,9 @@ vector-spec =
     loop-holds
     add-out
     mul-out
-    array-read-out
     mul-out-2
+    array-read-out
+    mul-out-3
     array-write-out
     add-i
     loop-less
