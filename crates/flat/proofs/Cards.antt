@@ -2,8 +2,8 @@
 -- Assumes nothing.
 use mathlib.Core.Path.{_≡_, refl, sym, ap, ap₂, _∙_, subst}
 use mathlib.Core.Bool.{Bool, true, false, not}
-use mathlib.Core.List.{List, [], _∷_}
-use Prim.Native.Nat.{ℕ, zero, suc, _+_, _*_, _/_, _%_, _^_, _≤_, _<_}
+use mathlib.Core.List.{List, [], _∷_, _++_}
+use Prim.Native.Nat.{ℕ, zero, suc, _+_, _*_, _^_, _≤_, _<_}
 use native.Mathlib.Nat.{not-suc-le-zero}
 use native.Mathlib.Omega.{arith}
 use borrow.Author.Tests.{ltb-false, eqb-true, not-false, le-ltb, eq-eqb}
@@ -69,30 +69,37 @@ unfolding each bytes
 length-column-bytes [] = refl
 length-column-bytes (c ∷ cs) = let h = length-column-bytes cs in omega arith
 
+-- two bytes and the number that they stand for
+two-number : (c : ℕ) → c < 65536 → getD (bytes 2 c) 0 0 + 256 * getD (bytes 2 c) 1 0 ≡ c
+unfolding bytes
+two-number c l = omega arith
+
+two-bytes : (x y : ℕ) → x < 256 → y < 256 → bytes 2 (x + 256 * y) ≡ x ∷ y ∷ []
+unfolding bytes
+two-bytes x y l m =
+    let c = bytes 2 (x + 256 * y) in
+    let low : getD c 0 0 ≡ x = omega arith in
+    let high : getD c 1 0 ≡ y = omega (arith, two-number (x + 256 * y) (omega arith)) in
+    ap₂ (λ (a b : ℕ). a ∷ b ∷ []) low high
+
 -- the columns come back out of their bytes
 pub columns-bytes : (cs : List ℕ) → ((j : ℕ) → j < length cs → getD cs j 0 < 65536) → columnsIn (length cs) (each (bytes 2) cs) ≡ cs
 unfolding each bytes columnsIn
 columns-bytes [] h = refl
 columns-bytes (c ∷ cs) h =
-    let l : c < 65536 = h 0 (omega arith) in
-    let e : c % 256 + 256 * (c / 256 % 256) ≡ c = omega arith in
-    columns-cons (length cs) (c % 256) (c / 256 % 256) (each (bytes 2) cs) ∙ ap₂ _∷_ e (columns-bytes cs (λ j k. h (suc j) (omega arith)))
+    columns-cons (length cs) (getD (bytes 2 c) 0 0) (getD (bytes 2 c) 1 0) (each (bytes 2) cs)
+    ∙ ap₂ _∷_ (two-number c (h 0 (omega arith))) (columns-bytes cs (λ j k. h (suc j) (omega arith)))
 
 -- bytes come back out of the columns that stand in them
 pub bytes-columns : (m : ℕ) (bs : List ℕ) → Bytes bs → length bs ≡ 2 * m → each (bytes 2) (columnsIn m bs) ≡ bs
-unfolding each bytes columnsIn
+unfolding each columnsIn
 bytes-columns zero [] b e = refl
 bytes-columns zero (x ∷ bs) b e = absurd (omega arith)
 bytes-columns (suc m) [] b e = absurd (omega arith)
 bytes-columns (suc m) (x ∷ []) b e = absurd (omega arith)
 bytes-columns (suc m) (x ∷ y ∷ bs) b e =
-    let lx : x < 256 = b 0 in
-    let ly : y < 256 = b 1 in
-    let low : (x + 256 * y) % 256 ≡ x = omega arith in
-    let half : (x + 256 * y) / 256 ≡ y = omega arith in
-    let high : y % 256 ≡ y = omega arith in
     ap (each (bytes 2)) (columns-cons m x y bs)
-    ∙ rw (low, half, high) (ap (λ (r : List ℕ). x ∷ y ∷ r) (bytes-columns m bs (λ i. b (suc (suc i))) (omega arith)))
+    ∙ ap₂ (λ (p q : List ℕ). p ++ q) (two-bytes x y (b 0) (b 1)) (bytes-columns m bs (λ i. b (suc (suc i))) (omega arith))
 
 -- ---- accepted codes and cards
 

@@ -2,29 +2,31 @@
 -- minimal one.
 -- Assumes nothing.
 use mathlib.Core.Path.{_≡_, sym, ap, _∙_, subst}
-use mathlib.Core.Bool.{not, _&&_}
-use mathlib.Core.Logic.{_⊎_, inl, inr, _≢_}
+use mathlib.Core.Logic.{_⊎_, inl, inr, _≢_, _↔_}
 use Prim.Native.Nat.{ℕ, _^_, _<_}
 use native.Mathlib.Nat.{lt-of-le-of-lt}
-use lib.Dec.{T, eqb}
+use lib.Dec.{T}
 use lib.Pow.{pow-lt}
-use Rattle.gf2.specs.Sets.{has, _⊕_, _∖_, _⊆_, _⊂_, over}
+use Rattle.gf2.specs.Sets.{has, _⊕_, _∖_, _⊆_, over}
 use Rattle.gf2.specs.Span.{InSpan, Minimal}
-use Rattle.gf2.proofs.Tests.{dec, T-ext, and-in, and-out, not-in, not-out, eqb-in, eqb-out}
+use Rattle.gf2.proofs.Tests.{dec, T-ext, eqb-in, eqb-out}
 use Rattle.gf2.proofs.Bits.{bit-of-zero, not-has}
 use Rattle.gf2.proofs.Xor.{⊕-self, ⊕-cancel, ⊕-lt, ⊕-back}
-use Rattle.gf2.proofs.Subsets.{⊆-in, ⊆-refl, ⊕-left, ⊕-⊆, ⊂-in, ⊂-out, ∖-out, ⊆-le, power-in, power-out, less-back, less-⊆, plus-has, plus-back, plus-⊆}
+use Rattle.gf2.proofs.Subsets.{⊆-in, ⊆-refl, ⊕-left, ⊕-⊆, ∖-out, ⊆-le, power-in, power-out, less-back, less-⊆, plus-has, plus-back, plus-⊆}
 use Rattle.gf2.proofs.Spans.{sum-in}
 use Rattle.gf2.proofs.Sums.{over-⊕, over-only}
-use Rattle.flat.specs.Lists.{some}
 use Rattle.flat.specs.Cards.{Code, disks}
 use Rattle.flat.specs.Strips.{holds}
 use Rattle.flat.specs.Erasures.{holdsBit}
 use Rattle.flat.specs.Equations.{equation, minimalEquation}
 use Rattle.flat.specs.Spans.{checks}
-use Rattle.flat.proofs.Quantifiers.{some-in, some-out}
 use Rattle.flat.proofs.Rows.{word-sum, checks-span}
 use Rattle.flat.proofs.Duality.{equation-in, equation-out}
+use Rattle.flat.proofs.Least.{Least, least-in, least-out}
+
+pub equation-least : (C : Code) (d E : ℕ) → T (minimalEquation C d E) ↔ Least (disks C) (equation C d) E
+unfolding minimalEquation
+equation-least C d E = (least-out (disks C) (equation C d) E, least-in (disks C) (equation C d) E)
 
 module _ (C : Code) (d : ℕ) (l : d < disks C) where
   -- ---- an equation and its disk
@@ -71,44 +73,29 @@ module _ (C : Code) (d : ℕ) (l : d < disks C) where
 
   -- ---- minimal equations are minimal words
 
-  pub minimal-equation : (E : ℕ) → T (minimalEquation C d E) → T (equation C d E)
-  unfolding minimalEquation
-  minimal-equation E t = and-out (equation C d E) (not (some (2 ^ disks C) (λ F. (F ⊂ E) && equation C d F))) t .0
-
   pub minimal-word : (E : ℕ) → E < 2 ^ disks C → T (minimalEquation C d E) → Minimal (checks C) (E ⊕ 2 ^ d)
-  unfolding minimalEquation
   minimal-word E h t =
       record { word = word; nonzero = λ e. not-has 0 d (bit-of-zero d) (subst (λ (x : ℕ). T (has x d)) e own); alone = alone }
     where
       w : ℕ
       w = E ⊕ 2 ^ d
 
-      parts : T (equation C d E) × T (not (some (2 ^ disks C) (λ F. (F ⊂ E) && equation C d F)))
-      parts = and-out (equation C d E) (not (some (2 ^ disks C) (λ F. (F ⊂ E) && equation C d F))) t
+      least : Least (disks C) (equation C d) E
+      least = equation-least C d E .0 t
 
       word : InSpan (checks C) w
-      word = equation-word E h (parts .0)
+      word = equation-word E h (least .holds)
 
       own : T (has w d)
-      own = plus-has E d (no-disk E (parts .0))
+      own = plus-has E d (no-disk E (least .holds))
 
       -- a word inside that holds d is the whole
       whole : (v : ℕ) → InSpan (checks C) v → T (has v d) → T (v ⊆ w) → v ≡ w
-      whole v s m u = go (dec (eqb (v ∖ 2 ^ d) E))
-        where
-          inside : T (v ∖ 2 ^ d ⊆ E)
-          inside = subst (λ (x : ℕ). T (v ∖ 2 ^ d ⊆ x)) (plus-back E d (no-disk E (parts .0))) (less-⊆ v w (2 ^ d) u)
-
-          go : T (eqb (v ∖ 2 ^ d) E) ⊎ (T (eqb (v ∖ 2 ^ d) E) → ⊥) → v ≡ w
-          go (inl q) = sym (less-back v d m) ∙ ap (λ (x : ℕ). x ⊕ 2 ^ d) (eqb-out (v ∖ 2 ^ d) E q)
-          go (inr f) =
-              absurd
-              (not-out (some (2 ^ disks C) (λ F. (F ⊂ E) && equation C d F)) (parts .1)
-              (some-in (2 ^ disks C) (λ F. (F ⊂ E) && equation C d F) (
-                v ∖ 2 ^ d,
-                less-lt v s,
-                and-in (v ∖ 2 ^ d ⊂ E) (equation C d (v ∖ 2 ^ d)) (⊂-in (v ∖ 2 ^ d) E (λ e. f (eqb-in e)) inside) (word-equation v s m),
-              )))
+      whole v s m u =
+          sym (less-back v d m)
+          ∙ ap (λ (x : ℕ). x ⊕ 2 ^ d)
+          (least .alone (v ∖ 2 ^ d) (less-lt v s)
+          (subst (λ (x : ℕ). T (v ∖ 2 ^ d ⊆ x)) (plus-back E d (no-disk E (least .holds))) (less-⊆ v w (2 ^ d) u)) (word-equation v s m))
 
       alone : (v : ℕ) → InSpan (checks C) v → v ≢ 0 → T (v ⊆ w) → v ≡ w
       alone v s f u = go (dec (has v d))
@@ -120,17 +107,13 @@ module _ (C : Code) (d : ℕ) (l : d < disks C) where
               absurd (f (sym (⊕-back w v) ∙ ap (λ (x : ℕ). w ⊕ x) q ∙ ⊕-self w))
 
   pub word-minimal : (w : ℕ) → Minimal (checks C) w → T (has w d) → T (minimalEquation C d (w ∖ 2 ^ d))
-  unfolding minimalEquation
-  word-minimal w m h =
-      and-in (equation C d (w ∖ 2 ^ d)) (not (some (2 ^ disks C) (λ F. (F ⊂ w ∖ 2 ^ d) && equation C d F))) (word-equation w (m .word) h)
-      (not-in (some (2 ^ disks C) (λ F. (F ⊂ w ∖ 2 ^ d) && equation C d F))
-      (λ t. let a = some-out (2 ^ disks C) (λ F. (F ⊂ w ∖ 2 ^ d) && equation C d F) t in
-      let F = a .0 in
-      let b = and-out (F ⊂ w ∖ 2 ^ d) (equation C d F) (a .2) in
-      let c = ⊂-out F (w ∖ 2 ^ d) (b .0) in
-      let g = no-disk F (b .1) in
-      let p = plus-has F d g in
-      let e : F ⊕ 2 ^ d ≡ w =
-      m .alone (F ⊕ 2 ^ d) (equation-word F (a .1) (b .1)) (λ z. not-has 0 d (bit-of-zero d) (subst (λ (x : ℕ). T (has x d)) z p))
-      (subst (λ (x : ℕ). T (F ⊕ 2 ^ d ⊆ x)) (less-back w d h) (plus-⊆ F (w ∖ 2 ^ d) d (λ u. ∖-out w (2 ^ d) d u .1 (power-in d)) (c .1))) in
-      c .0 (sym (plus-back F d g) ∙ ap (λ (x : ℕ). x ∖ 2 ^ d) e)))
+  word-minimal w m h = equation-least C d (w ∖ 2 ^ d) .1 (record { holds = word-equation w (m .word) h; alone = alone })
+    where
+      alone : (F : ℕ) → F < 2 ^ disks C → T (F ⊆ w ∖ 2 ^ d) → T (equation C d F) → F ≡ w ∖ 2 ^ d
+      alone F l t q =
+          let g = no-disk F q in
+          let p = plus-has F d g in
+          let e : F ⊕ 2 ^ d ≡ w =
+          m .alone (F ⊕ 2 ^ d) (equation-word F l q) (λ z. not-has 0 d (bit-of-zero d) (subst (λ (x : ℕ). T (has x d)) z p))
+          (subst (λ (x : ℕ). T (F ⊕ 2 ^ d ⊆ x)) (less-back w d h) (plus-⊆ F (w ∖ 2 ^ d) d (λ u. ∖-out w (2 ^ d) d u .1 (power-in d)) t)) in
+          sym (plus-back F d g) ∙ ap (λ (x : ℕ). x ∖ 2 ^ d) e

@@ -18,7 +18,7 @@ use Rattle.flat.specs.Cards.{Code, disks}
 use Rattle.flat.specs.Equations.{equation, minimalEquation, equations}
 use Rattle.flat.specs.Spans.{checks, selectors, equationsByParities}
 use Rattle.flat.proofs.Rows.{checks-span, checks-indep, checks-length, select-checks-lt, select-parity, zero-selects}
-use Rattle.flat.proofs.CheckWords.{less-lt, no-disk, minimal-equation, minimal-word, word-minimal}
+use Rattle.flat.proofs.CheckWords.{equation-least, less-lt, no-disk, minimal-word, word-minimal}
 use Rattle.flat.proofs.Members.{In, range-in, range-out, filter-in, filter-out, map-in, map-out, ordered-in, ordered-out}
 use Rattle.flat.proofs.Order.{Rel, Sorted, Lex, sorted-range, sorted-filter, sorted-map, sorted-ordered, sorted-unique, lex-asym, lt-asym}
 use Rattle.flat.proofs.Least.{least-inside, selectors-in, selectors-out, selectors-sorted}
@@ -53,10 +53,9 @@ module _ (C : Code) (d : ℕ) where
       (sorted-filter (λ E F. E < F) (minimalEquation C d) every-set (sorted-range 0 (2 ^ disks C))) (suc (disks C))
 
   pub equation-listed : (E : ℕ) → E < 2 ^ disks C → T (equation C d E) → (F : ℕ) × In F (equations C d) × T (F ⊆ E)
-  unfolding minimalEquation
   equation-listed E l t =
       let r = least-inside (disks C) (equation C d) (suc E) E (omega arith) l t in
-      (r .0, equations-in (r .0) (r .1) (r .3), r .2)
+      (r .0, equations-in (r .0) (r .1) (equation-least C d (r .0) .1 (r .3)), r .2)
 
 -- ---- one candidate for each set of parities
 
@@ -121,7 +120,7 @@ module _ (C : Code) (d : ℕ) (l : d < disks C) where
           let z = checks-span C w .0 (m .word) in
           let p = w / 2 ^ C .k in
           let e : select (checks C) p ≡ w = zero-selects C w z in
-          let f = no-disk C d l E (minimal-equation C d l E (a .1)) in
+          let f = no-disk C d l E (equation-least C d E .0 (a .1) .holds) in
           let h : size E ≤ disks C = size-lt (disks C) E (a .0) in
           ordered-in size (suc (disks C)) E by-parities (omega arith)
           (subst (λ (x : ℕ). In x by-parities) (ap (λ (x : ℕ). x ∖ 2 ^ d) e ∙ plus-back E d f)

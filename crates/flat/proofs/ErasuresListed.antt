@@ -2,7 +2,6 @@
 -- listed one.
 -- Assumes nothing.
 use mathlib.Core.Path.{_≡_, sym, ap, _∙_, subst}
-use mathlib.Core.Bool.{not, _&&_}
 use mathlib.Core.Logic.{inl, inr, _↔_}
 use mathlib.Core.List.{List, map}
 use Prim.Native.Nat.{ℕ, suc, _^_, _≤_, _<_}
@@ -11,18 +10,17 @@ use native.Mathlib.Omega.{arith}
 use lib.Dec.{T}
 use lib.ListN.{length}
 use lib.Pow.{pow-pos}
-use Rattle.gf2.specs.Sets.{size, _⊆_, _⊂_}
+use Rattle.gf2.specs.Sets.{size, _⊆_}
 use Rattle.gf2.specs.Span.{select, Minimal}
-use Rattle.gf2.proofs.Tests.{and-out}
 use Rattle.gf2.proofs.Subsets.{⊆-refl, ⊆-trans}
 use Rattle.gf2.proofs.Sizes.{size-lt}
-use Rattle.flat.specs.Lists.{some, range, filter, orderedBy}
+use Rattle.flat.specs.Lists.{range, filter, orderedBy}
 use Rattle.flat.specs.Cards.{Code, disks, dataPart}
 use Rattle.flat.specs.Erasures.{fatal, minimalErasure, erasures}
 use Rattle.flat.specs.Spans.{codeword, rows, selectors, erasuresByWord}
 use Rattle.flat.proofs.Words.{codeword-data}
 use Rattle.flat.proofs.Rows.{rows-length, rows-span, rows-indep, select-rows}
-use Rattle.flat.proofs.Fatal.{fatal-inside, fatal-more, word-below, minimal-in, minimal-out}
+use Rattle.flat.proofs.Fatal.{fatal-inside, fatal-more, word-below, erasure-least, minimal-in, minimal-out}
 use Rattle.flat.proofs.Members.{In, range-in, range-out, filter-in, filter-out, map-in, map-out, ordered-in, ordered-out}
 use Rattle.flat.proofs.Order.{Rel, Sorted, Lex, sorted-range, sorted-filter, sorted-map, sorted-weaken, sorted-ordered, sorted-unique, lex-asym, lt-asym}
 use Rattle.flat.proofs.Least.{least-inside, selectors-in, selectors-out, selectors-sorted}
@@ -82,13 +80,12 @@ module _ (C : Code) where
           absurd (lt-irrefl S (subst (λ (x : ℕ). x < S) (one-per-data-part R S (erasures-out R t .1) (erasures-out S u .1) d) l))
 
   pub fatal-listed : (S : ℕ) → T (fatal C S) ↔ ((R : ℕ) × In R (erasures C) × T (R ⊆ S))
-  unfolding minimalErasure
   fatal-listed S = (
     λ t. let w = fatal-inside C S .0 t in
         let b = word-below C (w .0) (w .1) in
         let r = least-inside (disks C) (fatal C) (suc (w .0)) (w .0) (omega arith) b (fatal-inside C (w .0) .1 (w .0, w .1, w .2, ⊆-refl (w .0))) in
-        (r .0, erasures-in (r .0) (r .1) (r .3), ⊆-trans (r .0) (w .0) S (r .2) (w .3)),
-    λ r. fatal-more C (r .0) S (r .2) (and-out (fatal C (r .0)) (not (some (2 ^ disks C) (λ Q. (Q ⊂ r .0) && fatal C Q))) (erasures-out (r .0) (r .1) .1) .0),
+        (r .0, erasures-in (r .0) (r .1) (erasure-least C (r .0) .1 (r .3)), ⊆-trans (r .0) (w .0) S (r .2) (w .3)),
+    λ r. fatal-more C (r .0) S (r .2) (erasure-least C (r .0) .0 (erasures-out (r .0) (r .1) .1) .holds),
   )
 
   -- ---- one candidate for each data word

@@ -7,13 +7,13 @@ use mathlib.Core.List.{List, [], _∷_}
 use Prim.Native.Nat.{ℕ, _^_, _≤_, _<_}
 use lib.Dec.{T, eqb}
 use lib.Pow.{pow-pos}
-use Rattle.gf2.specs.Sets.{has, _⊕_, _⊆_, _⊂_}
+use Rattle.gf2.specs.Sets.{has, _⊕_, _⊆_}
 use Rattle.gf2.specs.Span.{InSpan, Independent, Minimal}
 use Rattle.gf2.specs.Within.{within}
-use Rattle.gf2.proofs.Tests.{dec, and-in, and-out, not-in, not-out, unless-in, unless-out, eqb-in, eqb-out, neqb-in, neqb-out, below-or}
+use Rattle.gf2.proofs.Tests.{dec, and-in, and-out, unless-in, unless-out, eqb-in, eqb-out, neqb-in, neqb-out, below-or}
 use Rattle.gf2.proofs.Bits.{has-not, not-has, bit-above}
 use Rattle.gf2.proofs.Xor.{⊕-lt, ⊕-self, ⊕-zero, ⊕-cancel}
-use Rattle.gf2.proofs.Subsets.{⊆-in, ⊆-out, ⊆-refl, ⊆-trans, ⊆-antisym, ⊂-in, ⊂-out}
+use Rattle.gf2.proofs.Subsets.{⊆-in, ⊆-out, ⊆-refl, ⊆-trans, ⊆-antisym}
 use Rattle.gf2.proofs.Spans.{at, zero-in, first-in}
 use Rattle.gf2.proofs.Elimination.{within-spans, within-indep}
 use Rattle.flat.specs.Lists.{some}
@@ -23,6 +23,7 @@ use Rattle.flat.specs.Spans.{codeword, rows}
 use Rattle.flat.proofs.Quantifiers.{some-in, some-out, every-in, every-out}
 use Rattle.flat.proofs.Words.{word-⊕, codeword-lt, codeword-bit, codeword-zero, codeword-nonzero}
 use Rattle.flat.proofs.Rows.{rows-span, rows-indep}
+use Rattle.flat.proofs.Least.{Least, least-in, least-out}
 
 module _ (C : Code) where
   -- two data words agree outside S where the codeword of their XOR lies inside S
@@ -91,37 +92,28 @@ module _ (C : Code) where
 
   -- ---- minimal erasures
 
-  pub minimal-in : (S : ℕ) → Minimal (rows C) S → T (minimalErasure C S)
+  pub erasure-least : (S : ℕ) → T (minimalErasure C S) ↔ Least (disks C) (fatal C) S
   unfolding minimalErasure
+  erasure-least S = (least-out (disks C) (fatal C) S, least-in (disks C) (fatal C) S)
+
+  pub minimal-in : (S : ℕ) → Minimal (rows C) S → T (minimalErasure C S)
   minimal-in S m =
-      and-in (fatal C S) (not (some (2 ^ disks C) (λ R. (R ⊂ S) && fatal C R))) (fatal-inside S .1 (S, m .word, m .nonzero, ⊆-refl S))
-      (not-in (some (2 ^ disks C) (λ R. (R ⊂ S) && fatal C R))
-      (λ t. let a = some-out (2 ^ disks C) (λ R. (R ⊂ S) && fatal C R) t in
-      let R = a .0 in
-      let b = and-out (R ⊂ S) (fatal C R) (a .2) in
-      let c = ⊂-out R S (b .0) in
-      let r = fatal-inside R .0 (b .1) in
-      let e : r .0 ≡ S = m .alone (r .0) (r .1) (r .2) (⊆-trans (r .0) R S (r .3) (c .1)) in
-      c .0 (⊆-antisym R S (c .1) (subst (λ (w : ℕ). T (w ⊆ R)) e (r .3)))))
+      erasure-least S .1
+      (record {
+        holds = fatal-inside S .1 (S, m .word, m .nonzero, ⊆-refl S);
+        alone = λ R l t f. let r = fatal-inside R .0 f in
+            let e : r .0 ≡ S = m .alone (r .0) (r .1) (r .2) (⊆-trans (r .0) R S (r .3) t) in
+            ⊆-antisym R S t (subst (λ (w : ℕ). T (w ⊆ R)) e (r .3));
+      })
 
   pub minimal-out : (S : ℕ) → T (minimalErasure C S) → Minimal (rows C) S
-  unfolding minimalErasure
   minimal-out S t =
-      let a = and-out (fatal C S) (not (some (2 ^ disks C) (λ R. (R ⊂ S) && fatal C R))) t in
-      let none : (R : ℕ) → InSpan (rows C) R → R ≢ 0 → T (R ⊆ S) → R ≡ S =
-      λ R s f u. same R S (λ g. not-out (some (2 ^ disks C) (λ Q. (Q ⊂ S) && fatal C Q)) (a .1)
-      (some-in (2 ^ disks C) (λ Q. (Q ⊂ S) && fatal C Q)
-      (R, word-below R s, and-in (R ⊂ S) (fatal C R) (⊂-in R S g u) (fatal-inside R .1 (R, s, f, ⊆-refl R))))) in
-      let r = fatal-inside S .0 (a .0) in
-      let e : r .0 ≡ S = none (r .0) (r .1) (r .2) (r .3) in
-      record { word = at (rows C) e (r .1); nonzero = λ z. r .2 (e ∙ z); alone = none }
-    where
-      same : (R S : ℕ) → ((R ≢ S) → ⊥) → R ≡ S
-      same R S f = go (dec (eqb R S))
-        where
-          go : T (eqb R S) ⊎ (T (eqb R S) → ⊥) → R ≡ S
-          go (inl u) = eqb-out R S u
-          go (inr g) = absurd (f (λ e. g (eqb-in e)))
+      let a = erasure-least S .0 t in
+      let alone : (R : ℕ) → InSpan (rows C) R → R ≢ 0 → T (R ⊆ S) → R ≡ S =
+      λ R s f u. a .alone R (word-below R s) u (fatal-inside R .1 (R, s, f, ⊆-refl R)) in
+      let r = fatal-inside S .0 (a .holds) in
+      let e : r .0 ≡ S = alone (r .0) (r .1) (r .2) (r .3) in
+      record { word = at (rows C) e (r .1); nonzero = λ z. r .2 (e ∙ z); alone = alone }
 
   -- ---- what `within` leaves decides
 

@@ -12,32 +12,57 @@ use lib.ListN.{length, getD}
 use Rattle.gf2.specs.Sets.{_⊆_, _⊂_}
 use Rattle.gf2.specs.Span.{Independent, select, Minimal}
 use Rattle.gf2.specs.Within.{within}
-use Rattle.gf2.proofs.Tests.{dec, and-in, and-out, not-in, eqb-in, eqb-out}
-use Rattle.gf2.proofs.Subsets.{⊆-refl, ⊆-trans, ⊂-out, ⊆-le}
+use Rattle.gf2.proofs.Tests.{dec, and-in, and-out, not-in, not-out, eqb-in, eqb-out}
+use Rattle.gf2.proofs.Subsets.{⊆-refl, ⊆-trans, ⊂-in, ⊂-out, ⊆-le}
 use Rattle.gf2.proofs.Sums.{over-none, select-in}
 use Rattle.gf2.proofs.OneRow.{one-row}
 use Rattle.flat.specs.Lists.{some, range}
 use Rattle.flat.specs.Spans.{selectors}
-use Rattle.flat.proofs.Quantifiers.{some-out}
+use Rattle.flat.proofs.Quantifiers.{some-in, some-out}
 use Rattle.flat.proofs.Members.{In, range-in, range-out, filter-in, filter-out}
 use Rattle.flat.proofs.Order.{Sorted, sorted-range, sorted-filter}
 
 -- ---- a smallest set inside a set
 
--- p holds of R, and of no proper subset
-abbrev pub least : ℕ → (ℕ → Bool) → ℕ → Bool
-least n p R = p R && not (some (2 ^ n) (λ Q. (Q ⊂ R) && p Q))
+-- p holds of R, and of no other set below 2 ^ n inside R
+pub record Least (n : ℕ) (p : ℕ → Bool) (R : ℕ) : Type 0 where
+  pub holds : T (p R)
+  pub alone : (Q : ℕ) → Q < 2 ^ n → T (Q ⊆ R) → T (p Q) → Q ≡ R
 
-pub least-inside : (n : ℕ) (p : ℕ → Bool) (b S : ℕ) → S < b → S < 2 ^ n → T (p S) → (R : ℕ) × (R < 2 ^ n) × T (R ⊆ S) × T (least n p R)
+-- the same as a test
+module _ (n : ℕ) (p : ℕ → Bool) (R : ℕ) where
+  abbrev smaller : ℕ → Bool
+  smaller Q = (Q ⊂ R) && p Q
+
+  pub least-in : Least n p R → T (p R && not (some (2 ^ n) smaller))
+  least-in l =
+      and-in (p R) (not (some (2 ^ n) smaller)) (l .holds)
+      (not-in (some (2 ^ n) smaller)
+      (λ t. let a = some-out (2 ^ n) smaller t in
+      let b = and-out (a .0 ⊂ R) (p (a .0)) (a .2) in
+      let c = ⊂-out (a .0) R (b .0) in
+      c .0 (l .alone (a .0) (a .1) (c .1) (b .1))))
+
+  pub least-out : T (p R && not (some (2 ^ n) smaller)) → Least n p R
+  least-out t =
+      let a = and-out (p R) (not (some (2 ^ n) smaller)) t in
+      record { holds = a .0; alone = λ Q l u q. go Q l u q (not-out (some (2 ^ n) smaller) (a .1)) (dec (eqb Q R)) }
+    where
+      go : (Q : ℕ) → Q < 2 ^ n → T (Q ⊆ R) → T (p Q) → (T (some (2 ^ n) smaller) → ⊥) → T (eqb Q R) ⊎ (T (eqb Q R) → ⊥) → Q ≡ R
+      go Q l u q none (inl e) = eqb-out Q R e
+      go Q l u q none (inr f) =
+          absurd (none (some-in (2 ^ n) smaller (Q, l, and-in (Q ⊂ R) (p Q) (⊂-in Q R (λ e. f (eqb-in e)) u) q)))
+
+pub least-inside : (n : ℕ) (p : ℕ → Bool) (b S : ℕ) → S < b → S < 2 ^ n → T (p S) → (R : ℕ) × (R < 2 ^ n) × T (R ⊆ S) × Least n p R
 least-inside n p zero S h l t = absurd (omega arith)
-least-inside n p (suc b) S h l t = go (dec (some (2 ^ n) (λ Q. (Q ⊂ S) && p Q))) (least-inside n p b)
+least-inside n p (suc b) S h l t = go (dec (some (2 ^ n) (smaller n p S))) (least-inside n p b)
   where
-    go : T (some (2 ^ n) (λ Q. (Q ⊂ S) && p Q)) ⊎ (T (some (2 ^ n) (λ Q. (Q ⊂ S) && p Q)) → ⊥)
-        → ((R : ℕ) → R < b → R < 2 ^ n → T (p R) → (Q : ℕ) × (Q < 2 ^ n) × T (Q ⊆ R) × T (least n p Q))
-        → (R : ℕ) × (R < 2 ^ n) × T (R ⊆ S) × T (least n p R)
-    go (inr f) rest = (S, l, ⊆-refl S, and-in (p S) (not (some (2 ^ n) (λ Q. (Q ⊂ S) && p Q))) t (not-in (some (2 ^ n) (λ Q. (Q ⊂ S) && p Q)) f))
+    go : T (some (2 ^ n) (smaller n p S)) ⊎ (T (some (2 ^ n) (smaller n p S)) → ⊥)
+        → ((R : ℕ) → R < b → R < 2 ^ n → T (p R) → (Q : ℕ) × (Q < 2 ^ n) × T (Q ⊆ R) × Least n p Q)
+        → (R : ℕ) × (R < 2 ^ n) × T (R ⊆ S) × Least n p R
+    go (inr f) rest = (S, l, ⊆-refl S, least-out n p S (and-in (p S) (not (some (2 ^ n) (smaller n p S))) t (not-in (some (2 ^ n) (smaller n p S)) f)))
     go (inl u) rest =
-        let a = some-out (2 ^ n) (λ Q. (Q ⊂ S) && p Q) u in
+        let a = some-out (2 ^ n) (smaller n p S) u in
         let R = a .0 in
         let c = and-out (R ⊂ S) (p R) (a .2) in
         let d = ⊂-out R S (c .0) in

@@ -30,6 +30,7 @@ pub mod ErasuresListed
 pub mod CheckWords
 pub mod EquationsListed
 pub mod Verdicts
+pub mod Columns
 pub mod Told
 pub mod Positions
 pub mod Contents

@@ -3,14 +3,16 @@
 -- Assumes nothing.
 use mathlib.Core.Path.{_≡_, refl, sym, ap, _∙_}
 use mathlib.Core.Bool.{Bool, true, false}
+use mathlib.Core.Logic.{_≢_, ⊎-elim}
 use mathlib.Core.List.{List, [], _∷_}
-use Prim.Native.Nat.{ℕ, zero, suc, _≤_, _<_}
+use Prim.Native.Nat.{ℕ, suc, _≤_, _<_}
 use native.Mathlib.Omega.{arith}
-use borrow.Author.Tests.{lt-ltb, le-ltb, ltb-false}
-use lib.Dec.{eqb, ltb, eqb·suc-zero}
+use borrow.Author.Tests.{lt-ltb, le-ltb, eqb-true, eqb-false}
+use lib.Dec.{T, eqb}
 use lib.ListN.{length, getD, take, drop}
 use lib.Seq.{take-at}
 use Rattle.gf2.specs.If.{if_then_else_}
+use Rattle.gf2.proofs.Tests.{dec, T-false, eqb-in, eqb-out, below-or}
 use Rattle.flat.specs.Cards.{Code, codeOf}
 use Rattle.flat.specs.Faults.{Report, accepted, refused, unlessRefused, cardReport, withCard, listReport, listSlice}
 
@@ -26,55 +28,52 @@ pub passed-number : (b : Bool) (n : ℕ) (vs : List ℕ) (rest : Report) → (if
 passed-number true n vs rest e = absurd (omega arith)
 passed-number false n vs rest e = (refl, e, refl)
 
+-- `unlessRefused` is opened in the first two laws alone
 module _ {A : Type 0} where
-  pub unless-accepted : (r : Report) (ws : List ℕ) (new old : A) → r ≡ accepted ws → unlessRefused r new old ≡ new
-  unfolding unlessRefused
-  unless-accepted r ws new old e = rw e
-
   pub unless-number : (r : Report) (new old : A) → r .number ≡ 0 → unlessRefused r new old ≡ new
   unfolding unlessRefused
   unless-number r new old e = rw e
 
-  pub unless-refused : (r : Report) (n : ℕ) (vs : List ℕ) (new old : A) → r ≡ refused (suc n) vs → unlessRefused r new old ≡ old
+  unless-not : (r : Report) (new old : A) → r .number ≢ 0 → unlessRefused r new old ≡ old
   unfolding unlessRefused
-  unless-refused r n vs new old e = rw (e, eqb·suc-zero)
+  unless-not r new old f = rw (T-false {b = eqb (r .number) 0} (λ t. f (eqb-out (r .number) 0 t)))
+
+  pub unless-accepted : (r : Report) (ws : List ℕ) (new old : A) → r ≡ accepted ws → unlessRefused r new old ≡ new
+  unless-accepted r ws new old e = unless-number r new old (ap (λ (x : Report). x .number) e)
+
+  pub unless-refused : (r : Report) (n : ℕ) (vs : List ℕ) (new old : A) → r ≡ refused (suc n) vs → unlessRefused r new old ≡ old
+  unless-refused r n vs new old e = unless-not r new old (λ z. let q : suc n ≡ 0 = sym (ap (λ (x : Report). x .number) e) ∙ z in omega arith)
 
   -- where the code has tested the number
   pub unless-zero : (r : Report) (new old : A) → eqb (r .number) 0 ≡ true → new ≡ unlessRefused r new old
-  unfolding unlessRefused
-  unless-zero r new old e = ap (λ (b : Bool). if b then new else old) (sym e)
+  unless-zero r new old e = sym (unless-number r new old (eqb-true (r .number) 0 e))
 
   pub unless-other : (r : Report) (new old : A) → eqb (r .number) 0 ≡ false → old ≡ unlessRefused r new old
-  unfolding unlessRefused
-  unless-other r new old e = ap (λ (b : Bool). if b then new else old) (sym e)
+  unless-other r new old e = sym (unless-not r new old (eqb-false (r .number) 0 e))
 
 -- an accepted card's code is what the call works on
 pub with-accepted : (card : List ℕ) (ws : List ℕ) (f : Code → Report) → cardReport card ≡ accepted ws → withCard card f ≡ f (codeOf card)
 unfolding withCard
 with-accepted card ws f e = unless-accepted (cardReport card) ws (f (codeOf card)) (cardReport card) e
 
--- a call that takes a card is accepted only where the card is
-pub with-out : (card ws : List ℕ) (f : Code → Report) → withCard card f ≡ accepted ws → (cardReport card .number ≡ 0) × (f (codeOf card) ≡ accepted ws)
-unfolding withCard unlessRefused
-with-out card ws f e = go (cardReport card .number) refl e
+-- a call that takes a card has the number 0 only where the card's report has
+with-card : (card : List ℕ) (f : Code → Report) → withCard card f .number ≡ 0 → cardReport card .number ≡ 0
+unfolding withCard
+with-card card f e = ⊎-elim (eqb-out r 0) (λ g. absurd (g (eqb-in (sym (ap (λ (x : Report). x .number) (refusal g)) ∙ e)))) (dec (eqb r 0))
   where
-    go : (n : ℕ) → cardReport card .number ≡ n → (if eqb n 0 then f (codeOf card) else cardReport card) ≡ accepted ws
-        → (n ≡ 0) × (f (codeOf card) ≡ accepted ws)
-    go zero q h = (refl, h)
-    go (suc n) q h =
-        let g : cardReport card ≡ accepted ws = rw (eqb·suc-zero n) at h in
-        absurd (let z : suc n ≡ 0 = sym q ∙ ap (λ (r : Report). r .number) g in omega arith)
+    r : ℕ
+    r = cardReport card .number
 
--- the same of the number alone
+    refusal : (T (eqb r 0) → ⊥) → withCard card f ≡ cardReport card
+    refusal g = unless-not (cardReport card) (f (codeOf card)) (cardReport card) (λ z. g (eqb-in z))
+
 pub with-number : (card : List ℕ) (f : Code → Report) → withCard card f .number ≡ 0 → withCard card f ≡ f (codeOf card)
-unfolding withCard unlessRefused
-with-number card f e = go (cardReport card .number) refl e
-  where
-    go : (n : ℕ) → cardReport card .number ≡ n → (if eqb n 0 then f (codeOf card) else cardReport card) .number ≡ 0
-        → (if eqb n 0 then f (codeOf card) else cardReport card) ≡ f (codeOf card)
-    go zero q h = refl
-    go (suc n) q h =
-        let g : cardReport card .number ≡ 0 = rw (eqb·suc-zero n) at h in absurd (omega arith)
+unfolding withCard
+with-number card f e = unless-number (cardReport card) (f (codeOf card)) (cardReport card) (with-card card f e)
+
+-- and is accepted only where the card is
+pub with-out : (card ws : List ℕ) (f : Code → Report) → withCard card f ≡ accepted ws → (cardReport card .number ≡ 0) × (f (codeOf card) ≡ accepted ws)
+with-out card ws f e = let n = ap (λ (x : Report). x .number) e in (with-card card f n, sym (with-number card f n) ∙ e)
 
 -- only the card's code matters
 pub with-cong : (card : List ℕ) (f g : Code → Report) → f (codeOf card) ≡ g (codeOf card) → withCard card f ≡ withCard card g
@@ -93,11 +92,10 @@ list-fits list n count e l = let h : length list ≤ n = omega arith in rw (e, l
 
 -- an accepted call's count is the list's, which fits, and so the list was written
 pub list-counted : (list : List ℕ) (n count : ℕ) → listReport list n ≡ accepted (count ∷ []) → (length list ≡ count) × (count ≤ n)
-unfolding listReport
 list-counted list n count e =
-    let p = passed (ltb n (length list)) 9 (length list ∷ []) (count ∷ []) (accepted (length list ∷ [])) e in
-    let c : length list ≡ count = ap (λ (x : Report). getD (x .values) 0 0) (p .1) in
-    (c, omega (arith, ltb-false n (length list) (p .0)))
+    ⊎-elim (λ l. absurd (let z : _≡_ {A = ℕ} 10 0 = ap (λ (x : Report). x .number) (list-short list n (length list) refl l ∙ e) in omega arith))
+    (λ l. let c : length list ≡ count = ap (λ (x : Report). getD (x .values) 0 0) (list-fits list n (length list) refl l ∙ e) in (c, omega arith))
+    (below-or n (length list))
 
 pub list-written : (list slice : List ℕ) (count : ℕ) → listReport list (length slice) ≡ accepted (count ∷ []) → take count (listSlice list slice) ≡ list
 unfolding listSlice

@@ -3,7 +3,7 @@
 use mathlib.Core.Path.{_≡_, refl, sym, ap, ap₂, _∙_, subst}
 use mathlib.Core.Bool.{Bool, true, false, not, _&&_}
 use mathlib.Core.Logic.{_⊎_, inl, inr, ⊎-elim}
-use Prim.Native.Nat.{ℕ, zero, suc, _-_, _^_, _≤_, _<_}
+use Prim.Native.Nat.{ℕ, zero, suc, _^_, _≤_, _<_}
 use native.Mathlib.Nat.{not-suc-le-zero, lt-irrefl}
 use native.Mathlib.Omega.{arith}
 use lib.Dec.{T, eqb, ltb}
@@ -21,7 +21,7 @@ use Rattle.flat.specs.Strips.{holds}
 use Rattle.flat.specs.Erasures.{holdsBit, survivors}
 use Rattle.flat.specs.Spans.{codeword, checks}
 use Rattle.flat.proofs.Quantifiers.{set-in, set-out}
-use Rattle.flat.proofs.Words.{holds-⊕, holds-lt, codeword-bit}
+use Rattle.flat.proofs.Words.{holds-data, holds-parity, by-disk, holds-⊕, holds-lt, codeword-bit}
 use Rattle.flat.proofs.Duality.{Told, Held, survivor-in, survivor-out, told-or-held}
 use Rattle.flat.proofs.CheckWords.{equation-word, told-sum, equation-sum}
 use Rattle.flat.proofs.Told.{among-lt}
@@ -68,15 +68,13 @@ over-times (suc n) S δ f h =
 
 -- the disks of the codeword hold the byte, and the others 0
 holds-times : (C : Code) (y δ i : ℕ) → holds C (λ d. times δ (bit y d)) i ≡ times δ (holdsBit C y i)
-unfolding holds holdsBit
-holds-times C y δ i = go (ltb i (C .k))
+unfolding holdsBit
+holds-times C y δ =
+    by-disk C (λ i. holds C scaled i ≡ times δ (holds C (bit y) i)) (λ i l. holds-data C scaled i l ∙ ap (times δ) (sym (holds-data C (bit y) i l)))
+    (λ j. holds-parity C scaled j ∙ over-times (C .k) (column C j) δ (bit y) (bit-lt y) ∙ ap (times δ) (sym (holds-parity C (bit y) j)))
   where
-    c : ℕ
-    c = column C (i - C .k)
-
-    go : (b : Bool) → (if b then times δ (bit y i) else over (C .k) c (λ d. times δ (bit y d))) ≡ times δ (if b then bit y i else over (C .k) c (bit y))
-    go true = refl
-    go false = over-times (C .k) c δ (bit y) (bit-lt y)
+    scaled : ℕ → ℕ
+    scaled d = times δ (bit y d)
 
 -- ---- disk after disk
 

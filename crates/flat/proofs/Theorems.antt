@@ -19,6 +19,7 @@ use Rattle.flat.proofs.Order.{sorted-at}
 use Rattle.flat.proofs.ErasuresListed as listed
 use Rattle.flat.proofs.EquationsListed as equated
 use Rattle.flat.proofs.Verdicts as verdicts
+use Rattle.flat.proofs.Columns as columns
 use Rattle.flat.proofs.Told as left
 use Rattle.flat.proofs.Positions as positions
 use Rattle.flat.proofs.Agreement as agreement
@@ -91,6 +92,12 @@ equation-holds-listed = equated.equation-listed
 
 pub equations-enumerated : Theorems.EquationsEnumerated
 equations-enumerated = equated.equations-enumerated
+
+pub no-equation-empty : Theorems.NoEquationEmpty
+no-equation-empty = columns.no-equation-empty
+
+pub no-column-no-equation : Theorems.NoColumnNoEquation
+no-column-no-equation = columns.no-column-no-equation
 
 pub minimal-sizes : Theorems.MinimalSizes
 unfolding disks

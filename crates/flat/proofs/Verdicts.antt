@@ -11,7 +11,7 @@ use borrow.Author.Tests.{lt-ltb}
 use lib.Dec.{T, ltb}
 use lib.ListN.{length, getD, take}
 use Rattle.gf2.specs.If.{if_then_else_}
-use Rattle.gf2.specs.Sets.{has, _⊆_}
+use Rattle.gf2.specs.Sets.{has}
 use Rattle.gf2.proofs.Tests.{T-true, true-T, ltb-out}
 use Rattle.gf2.proofs.Subsets.{⊆-trans, ⊆-le}
 use Rattle.flat.specs.Lists.{member}
@@ -22,7 +22,7 @@ use Rattle.flat.specs.Faults.{Report, accepted, refused, yesNo, cardRepo
 use Rattle.flat.specs.Theorems.{VerdictListed, EquationListed, LongSlicesAccepted}
 use Rattle.flat.proofs.Reports.{passed, unless-accepted, with-accepted, list-fits, list-written}
 use Rattle.flat.proofs.Quantifiers.{set-lt}
-use Rattle.flat.proofs.CheckWords.{minimal-equation}
+use Rattle.flat.proofs.CheckWords.{equation-least}
 use Rattle.flat.proofs.EquationsListed as equated
 use Rattle.flat.proofs.ErasuresListed.{fatal-listed}
 
@@ -93,7 +93,7 @@ equation-listed card slice S d k m count ok e =
       λ r. let l = lt-of-le-of-lt (⊆-le (r .0) (survivors C S) (r .1)) (set-lt (disks C) (λ i. not (has S i))) in
           let f = equated.equation-listed C d (r .0) l (r .2) in
           (f .0, subst (λ (l : List ℕ). T (member (f .0) l)) (sym w) (f .1), ⊆-trans (f .0) (r .0) (survivors C S) (f .2) (r .1)),
-      λ r. (r .0, r .2, minimal-equation C d (a .0) (r .0) (equated.equations-out C d (r .0) (subst (λ (l : List ℕ). T (member (r .0) l)) w (r .1)) .1)),
+      λ r. (r .0, r .2, equation-least C d (r .0) .0 (equated.equations-out C d (r .0) (subst (λ (l : List ℕ). T (member (r .0) l)) w (r .1)) .1) .holds),
     )
 
 pub long-slices-accepted : LongSlicesAccepted

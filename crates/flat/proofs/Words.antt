@@ -1,17 +1,16 @@
 -- What the disks hold is linear in the data, and so is the codeword of a data word.
 -- Assumes nothing.
-use mathlib.Core.Path.{_≡_, refl, sym, ap, ap₂, _∙_}
-use mathlib.Core.Bool.{Bool, true, false}
-use mathlib.Core.Logic.{_⊎_, inl, inr, _≢_}
+use mathlib.Core.Path.{_≡_, sym, ap, ap₂, _∙_, subst}
+use mathlib.Core.Logic.{_⊎_, inl, inr, _≢_, ⊎-elim}
 use Prim.Native.Nat.{ℕ, _+_, _-_, _%_, _^_, _<_}
 use native.Mathlib.Nat.{mod-lt, zero-mod}
 use native.Mathlib.Omega.{arith}
 use borrow.Author.Tests.{lt-ltb, le-ltb}
-use lib.Dec.{T, ltb, eqb}
+use lib.Dec.{eqb}
 use lib.Pow.{pow-pos}
 use Rattle.gf2.specs.If.{if_then_else_}
 use Rattle.gf2.specs.Sets.{bit, _⊕_, over}
-use Rattle.gf2.proofs.Tests.{ltb-out}
+use Rattle.gf2.proofs.Tests.{below-or}
 use Rattle.gf2.proofs.Bits.{bit-lt, two-cases, bit-⊕-bits, bit-of-zero, bit-mod, ext-below}
 use Rattle.gf2.proofs.Xor.{⊕-lt}
 use Rattle.gf2.proofs.Sums.{over-cong, over-sum, over-zero, over-lt}
@@ -24,43 +23,6 @@ use Rattle.flat.proofs.Quantifiers.{set-lt, bit-set}
 -- ---- what a disk holds, of bits and of bytes
 
 module _ (C : Code) where
-  -- only the data disks matter
-  pub holds-cong : (v w : ℕ → ℕ) (i : ℕ) → ((d : ℕ) → d < C .k → v d ≡ w d) → holds C v i ≡ holds C w i
-  unfolding holds
-  holds-cong v w i e = go (ltb i (C .k)) (λ t. e i (ltb-out i (C .k) t))
-    where
-      go : (b : Bool) → (T b → v i ≡ w i)
-          → (if b then v i else over (C .k) (column C (i - C .k)) v) ≡ (if b then w i else over (C .k) (column C (i - C .k)) w)
-      go true h = h tt
-      go false h = over-cong (C .k) (column C (i - C .k)) v w (λ d l t. e d l)
-
-  pub holds-⊕ : (v w : ℕ → ℕ) (i : ℕ) → holds C (λ d. v d ⊕ w d) i ≡ holds C v i ⊕ holds C w i
-  unfolding holds
-  holds-⊕ v w i = go (ltb i (C .k))
-    where
-      at : (ℕ → ℕ) → Bool → ℕ
-      at u b = if b then u i else over (C .k) (column C (i - C .k)) u
-
-      go : (b : Bool) → at (λ d. v d ⊕ w d) b ≡ at v b ⊕ at w b
-      go true = refl
-      go false = over-sum (C .k) (column C (i - C .k)) v w
-
-  pub holds-zero : (i : ℕ) → holds C (λ d. 0) i ≡ 0
-  unfolding holds
-  holds-zero i = go (ltb i (C .k))
-    where
-      go : (b : Bool) → (if b then 0 else over (C .k) (column C (i - C .k)) (λ d. 0)) ≡ 0
-      go true = refl
-      go false = over-zero (C .k) (column C (i - C .k))
-
-  pub holds-lt : (w : ℕ) (v : ℕ → ℕ) (i : ℕ) → ((d : ℕ) → v d < 2 ^ w) → holds C v i < 2 ^ w
-  unfolding holds
-  holds-lt w v i h = go (ltb i (C .k))
-    where
-      go : (b : Bool) → (if b then v i else over (C .k) (column C (i - C .k)) v) < 2 ^ w
-      go true = h i
-      go false = over-lt w (C .k) (column C (i - C .k)) v (λ d l t. h d)
-
   pub holds-data : (v : ℕ → ℕ) (i : ℕ) → i < C .k → holds C v i ≡ v i
   unfolding holds
   holds-data v i l = rw (lt-ltb i (C .k) l)
@@ -69,6 +31,32 @@ module _ (C : Code) where
   unfolding holds
   holds-parity v j =
       let e : C .k + j - C .k ≡ j = omega arith in rw (le-ltb (C .k + j) (C .k) (omega arith), e)
+
+  -- what holds of each data disk and of each parity disk holds of every disk
+  pub by-disk : (P : ℕ → Type 0) → ((i : ℕ) → i < C .k → P i) → ((j : ℕ) → P (C .k + j)) → (i : ℕ) → P i
+  by-disk P d p i = ⊎-elim (d i) (λ l. let e : C .k + (i - C .k) ≡ i = omega arith in subst P e (p (i - C .k))) (below-or i (C .k))
+
+  -- only the data disks matter
+  pub holds-cong : (v w : ℕ → ℕ) (i : ℕ) → ((d : ℕ) → d < C .k → v d ≡ w d) → holds C v i ≡ holds C w i
+  holds-cong v w i e =
+      by-disk (λ i. holds C v i ≡ holds C w i) (λ i l. holds-data v i l ∙ e i l ∙ sym (holds-data w i l))
+      (λ j. holds-parity v j ∙ over-cong (C .k) (column C j) v w (λ d l t. e d l) ∙ sym (holds-parity w j)) i
+
+  pub holds-⊕ : (v w : ℕ → ℕ) (i : ℕ) → holds C (λ d. v d ⊕ w d) i ≡ holds C v i ⊕ holds C w i
+  holds-⊕ v w =
+      by-disk (λ i. holds C (λ d. v d ⊕ w d) i ≡ holds C v i ⊕ holds C w i)
+      (λ i l. holds-data (λ d. v d ⊕ w d) i l ∙ sym (ap₂ (λ (a b : ℕ). a ⊕ b) (holds-data v i l) (holds-data w i l)))
+      (λ j. holds-parity (λ d. v d ⊕ w d) j ∙ over-sum (C .k) (column C j) v w
+      ∙ sym (ap₂ (λ (a b : ℕ). a ⊕ b) (holds-parity v j) (holds-parity w j)))
+
+  pub holds-zero : (i : ℕ) → holds C (λ d. 0) i ≡ 0
+  holds-zero =
+      by-disk (λ i. holds C (λ d. 0) i ≡ 0) (holds-data (λ d. 0)) (λ j. holds-parity (λ d. 0) j ∙ over-zero (C .k) (column C j))
+
+  pub holds-lt : (w : ℕ) (v : ℕ → ℕ) (i : ℕ) → ((d : ℕ) → v d < 2 ^ w) → holds C v i < 2 ^ w
+  holds-lt w v i h =
+      by-disk (λ i. holds C v i < 2 ^ w) (λ i l. subst (λ (x : ℕ). x < 2 ^ w) (sym (holds-data v i l)) (h i))
+      (λ j. subst (λ (x : ℕ). x < 2 ^ w) (sym (holds-parity v j)) (over-lt w (C .k) (column C j) v (λ d l t. h d))) i
 
   -- ---- of a data word
 

@@ -10,7 +10,7 @@ use Rattle.gf2.specs.Sets.{has, size, _⊕_, _⊆_, union, over}
 use Rattle.gf2.specs.Span.{InSpan, Independent}
 use Rattle.gf2.specs.Within.{within}
 use Rattle.flat.specs.Lists.{Bytes, setOf, member, padded}
-use Rattle.flat.specs.Cards.{Code, code, codeOf, disks, setOk, dataPart}
+use Rattle.flat.specs.Cards.{Code, code, codeOf, disks, column, setOk, dataPart}
 use Rattle.flat.specs.Erasures.{holdsBit, survivors, fatal, minimalErasure, erasures}
 use Rattle.flat.specs.Equations.{equation, minimalEquation, equations}
 use Rattle.flat.specs.Faults.{accepted, cardReport, cardColumns, cardWriteReport, cardWriteBuffer, verdictReport, erasuresReport, erasuresSlice, equationsReport, equationsSlice}
@@ -144,6 +144,21 @@ EquationHoldsListed =
 -- It equals the enumeration with one candidate for each set of parities, kept where its check word holds the disk and leaves one row.
 abbrev pub EquationsEnumerated : Type 0
 EquationsEnumerated = (C : Code) (d : ℕ) → d < disks C → equations C d ≡ equationsByParities C d
+
+-- No equation of a disk of an accepted card is empty, since no column is 0.
+abbrev pub NoEquationEmpty : Type 0
+NoEquationEmpty =
+    (card : List ℕ) (d E k m : ℕ) → cardReport card ≡ accepted (k ∷ m ∷ []) → d < disks (codeOf card)
+    → T (equation (codeOf card) d E) → E ≢ 0
+
+-- A data disk in no column of an accepted card has no equation: its list is empty, and the call accepts every slice with count 0.
+abbrev pub NoColumnNoEquation : Type 0
+NoColumnNoEquation =
+    (card : List ℕ) (d k m : ℕ) → cardReport card ≡ accepted (k ∷ m ∷ []) → d < k
+    → ((j : ℕ) → j < m → T (has (column (codeOf card) j) d) → ⊥)
+    → ((E : ℕ) → T (equation (codeOf card) d E) → ⊥)
+    × (equations (codeOf card) d ≡ [])
+    × ((n : ℕ) → equationsReport card d n ≡ accepted (0 ∷ []))
 
 -- A codeword of more than m + 1 disks leaves more than one row, and so does a check word of more than k + 1.
 abbrev pub MinimalSizes : Type 0

@@ -1,2 +1,3 @@
 pub mod Stripes
 pub mod Worked
+pub mod Impostors

@@ -1,11 +1,11 @@
--- The stripes C8 and C9 of document 01. The search over all contents is too long to compute: these go by the theorems on rebuilding.
+-- The stripes of C8, C9 and C10. The search over all contents is too long to compute: these go by the theorems on rebuilding.
 -- Assumes nothing.
 use mathlib.Core.Path.{_≡_, refl, _∙_}
 use mathlib.Core.List.{List, [], _∷_}
 use Prim.Native.Nat.{ℕ, zero, suc, _*_}
 use native.Mathlib.Omega.{arith}
 use lib.Dec.{T}
-use lib.ListN.{length}
+use lib.ListN.{length, drop}
 use Rattle.gf2.specs.Sets.{size}
 use Rattle.flat.specs.Lists.{Bytes}
 use Rattle.flat.specs.Cards.{cardBytes, codeOf, disks, setOk}
@@ -14,9 +14,10 @@ use Rattle.flat.specs.Erasures.{fatal}
 use Rattle.flat.specs.Rebuilding.{agrees, agreeing, restored}
 use Rattle.flat.specs.Repairs.{filled, consistent, equationAmong}
 use Rattle.flat.specs.Faults.{accepted, refused, cardReport, rebuildReport, rebuildStripe}
-use Rattle.worked.specs.Worked.{C1, C7, C8}
+use Rattle.worked.specs.Table.{Rebuilt, C1, C8, C9, C10}
+use Rattle.worked.specs.Worked.{Rebuilds}
 use Rattle.flat.specs.Demand3.{Agreeing, RightRebuild}
-use Rattle.flat.proofs.Reports.{unless-accepted}
+use Rattle.flat.proofs.Reports.{unless-accepted, unless-refused}
 use Rattle.flat.proofs.Agreement.{some-agreeing, restored-filled}
 use Rattle.flat.proofs.Consistency.{agreeing-consistent}
 use Rattle.flat.proofs.Demanded.{right-rebuild}
@@ -28,6 +29,12 @@ card = cardBytes (C1 .of)
 card-ok : cardReport card ≡ accepted (4 ∷ 3 ∷ [])
 unfolding cardReport cardBytes
 card-ok = refl
+
+-- a refused call leaves the stripe
+kept : (C : Rebuilt) (n : ℕ) (vs : List ℕ) → rebuildReport (cardBytes (C .of)) (C .L) (C .lost) (C .entry) ≡ refused (suc n) vs
+    → rebuildStripe (cardBytes (C .of)) (C .L) (C .lost) (C .entry) ≡ C .entry
+unfolding rebuildStripe
+kept C n vs e = unless-refused (rebuildReport (cardBytes (C .of)) (C .L) (C .lost) (C .entry)) n vs _ (C .entry) e
 
 -- ---- C8
 
@@ -47,52 +54,64 @@ unfolding fatal codeOf cardBytes
 not-fatal t = t
 
 module _ (a b c : ℕ) where
-  content-agrees : Agreeing (codeOf card) 1 7 (C8 a b c) content
+  abbrev stripe : List ℕ
+  stripe = a ∷ b ∷ c ∷ drop 3 (C8 .entry)
+
+  content-agrees : Agreeing (codeOf card) 1 7 stripe content
   unfolding agrees codeOf cardBytes
   content-agrees = record { strips = refl; bytes = content-bytes; agree = tt }
 
-  right : RightRebuild card 7 1 (C8 a b c)
+  right : RightRebuild card 7 1 stripe
   unfolding setOk lengthOk disks codeOf cardBytes
-  right = right-rebuild card 4 3 7 1 (C8 a b c) card-ok tt tt refl not-fatal
+  right = right-rebuild card 4 3 7 1 stripe card-ok tt tt refl not-fatal
 
-  pub c8-answer : rebuildReport (cardBytes (C1 .of)) 1 7 (C8 a b c) ≡ accepted (3 ∷ [])
+  pub c8-answer : rebuildReport card 1 7 stripe ≡ C8 .answer
   unfolding size
   c8-answer = right .some content content-agrees .answer
 
-  computed : filled (disks (codeOf card)) 1 (equationAmong (codeOf card) 7) 7 (C8 a b c) ≡ C7 0x77 0xBB 0xDD
+  computed : filled (disks (codeOf card)) 1 (equationAmong (codeOf card) 7) 7 stripe ≡ C8 .exit
   unfolding filled disks equationAmong codeOf cardBytes
   computed = refl
 
-  seven : length (C8 a b c) ≡ disks (codeOf card) * 1
+  seven : length stripe ≡ disks (codeOf card) * 1
   unfolding disks codeOf cardBytes
   seven = refl
 
-  pub c8-stripe : rebuildStripe (cardBytes (C1 .of)) 1 7 (C8 a b c) ≡ C7 0x77 0xBB 0xDD
+  pub c8-stripe : rebuildStripe card 1 7 stripe ≡ C8 .exit
   unfolding rebuildStripe
   c8-stripe =
       let C = codeOf card in
-      unless-accepted (rebuildReport card 1 7 (C8 a b c)) (3 ∷ []) (restored C 1 7 (C8 a b c) (agreeing C 1 7 (C8 a b c))) (C8 a b c) c8-answer
-      ∙ restored-filled C 1 7 (C8 a b c) seven not-fatal (some-agreeing C 1 7 (C8 a b c) content content-agrees) ∙ computed
+      unless-accepted (rebuildReport card 1 7 stripe) (3 ∷ []) (restored C 1 7 stripe (agreeing C 1 7 stripe)) stripe c8-answer
+      ∙ restored-filled C 1 7 stripe seven not-fatal (some-agreeing C 1 7 stripe content content-agrees) ∙ computed
 
 -- ---- C9
-
-abbrev spoilt : List ℕ
-spoilt = C7 0x77 0xBB 0xDC
 
 not-fatal-one : T (fatal (codeOf card) 1) → ⊥
 unfolding fatal codeOf cardBytes
 not-fatal-one t = t
 
 -- a check word among the survivors does not vanish
-inconsistent : T (consistent (codeOf card) 1 1 spoilt) → ⊥
+inconsistent : T (consistent (codeOf card) 1 1 (C9 .entry)) → ⊥
 unfolding consistent codeOf cardBytes
 inconsistent t = t
 
-spoilt-right : RightRebuild card 1 1 spoilt
+right-9 : RightRebuild card 1 1 (C9 .entry)
 unfolding setOk lengthOk disks codeOf cardBytes
-spoilt-right = right-rebuild card 4 3 1 1 spoilt card-ok tt tt refl not-fatal-one
+right-9 = right-rebuild card 4 3 1 1 (C9 .entry) card-ok tt tt refl not-fatal-one
 
-pub c9-answer : rebuildReport (cardBytes (C1 .of)) 1 1 (C7 0x77 0xBB 0xDC) ≡ refused 12 []
+c9-answer : rebuildReport card 1 1 (C9 .entry) ≡ C9 .answer
 c9-answer =
-    spoilt-right .none .1
-    (λ c a. inconsistent (agreeing-consistent (codeOf card) 1 1 spoilt (some-agreeing (codeOf card) 1 1 spoilt c a)))
+    right-9 .none .1
+    (λ c a. inconsistent (agreeing-consistent (codeOf card) 1 1 (C9 .entry) (some-agreeing (codeOf card) 1 1 (C9 .entry) c a)))
+
+pub c9 : Rebuilds C9
+c9 = record { answer = c9-answer; stripe = kept C9 11 [] c9-answer }
+
+-- ---- C10
+
+c10-answer : rebuildReport card 1 14 (C10 .entry) ≡ C10 .answer
+unfolding rebuildReport cardBytes
+c10-answer = refl
+
+pub c10 : Rebuilds C10
+c10 = record { answer = c10-answer; stripe = kept C10 10 [] c10-answer }
