@@ -6,11 +6,13 @@
  *
  * A refused call changes no lent byte. Every byte string, number, set and length is a legal argument. The
  * caller guarantees three things: a pointer reaches as many elements as the length beside it says (it may
- * be null where that is 0), no buffer that is written overlaps another that is lent, and no other thread
+ * be null where that is 0) or as its declaration says (counts[2], columns[16], vector[17], fields[4] and
+ * place[2] may not be null), no buffer that is written overlaps another that is lent, and no other thread
  * writes a lent buffer meanwhile. The calls keep no state.
  *
- * A set of disks is a 32-bit number, bit i for disk i. A stripe is the strips of all disks, disk i's at
- * byte i * strip_len. size_t has 64 bits.
+ * A set of disks is a 32-bit number, bit i for disk i. C cuts a wider one to its low 32 bits before the
+ * call, so that the call cannot refuse the rest. A stripe is the strips of all disks, disk i's at byte
+ * i * strip_len. size_t has 64 bits.
  */
 #ifndef BRIDGECRUMB_H
 #define BRIDGECRUMB_H
@@ -71,7 +73,8 @@ uint64_t bridgecrumb_encode(const uint8_t *card, size_t card_len, size_t strip_l
 uint64_t bridgecrumb_verdict(const uint8_t *card, size_t card_len, uint32_t set);
 
 /* Takes a card. Writes all minimal erasures into `out`, smaller size first, then smaller data part, and
- * into vector[i - 1] how many hold i disks; the value is the count, and `out` past it keeps what it had.
+ * into vector[i - 1] how many hold i disks, for i from 1 to m; its places past m become 0. The value is
+ * the count, and `out` past it keeps what it had.
  * Refuses 1 to 5, then 10. */
 uint64_t bridgecrumb_list(const uint8_t *card, size_t card_len, uint32_t *out, size_t out_len, size_t vector[17]);
 

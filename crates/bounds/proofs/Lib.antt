@@ -1,2 +1,4 @@
+pub mod ListLengths
 pub mod Values
 pub mod RecordValues
+pub mod Theorems

@@ -1,11 +1,10 @@
--- The value that a report on a record names is below 2 ^ 32: the record's length, and a card's column.
+-- The reports of the calls on record files fit into one number: what is named is the record's length, or k first.
 -- Assumes nothing.
 use mathlib.Core.Bool.{not}
 use mathlib.Core.List.{List, [], _∷_}
-use Prim.Native.Nat.{ℕ, _*_, _≤_, _<_}
+use Prim.Native.Nat.{ℕ, _*_, _≤_}
 use native.Mathlib.Nat.{le-refl}
 use native.Mathlib.Omega.{arith}
-use borrow.Author.Tests.{not-false}
 use lib.Dec.{eqb, ltb}
 use lib.ListN.{length}
 use Rattle.gf2.specs.If.{if_then_else_}
@@ -16,49 +15,45 @@ use Rattle.flat.specs.Records.{recordLength, lengthIn, bodyIn, markOk, entriesO
 use Rattle.flat.specs.Faults.{Report, accepted, refused, withRecord, recordWriteReport, recordReport, bodyReport}
 use Rattle.flat.proofs.Lengths.{length-in}
 use Rattle.flat.proofs.Entries.{body-place}
-use Rattle.bounds.specs.Coded.{value}
-use Rattle.bounds.proofs.Values.{pick, with-value}
+use Rattle.bounds.specs.Coded.{Fits}
+use Rattle.bounds.proofs.Values.{plain, named, pick, test, with-fits}
 
--- a record is shorter than four gigabytes
-length-small : (C : Code) (L S : ℕ) → C .k ≤ 16 → C .m ≤ 16 → L ≤ 65536 → recordLength C L S < 4294967296
-unfolding recordLength
-length-small C L S hk hm hL = body-place C L S (disks C) hk hm hL (le-refl (disks C))
-
-pub record-write-value : (card : List ℕ) (L S n p : ℕ) → value (recordWriteReport card L S n p) < 4294967296
-unfolding recordWriteReport
-record-write-value card L S n p =
-    with-value card
+pub record-write-fits : (card : List ℕ) (L S n p : ℕ) → Fits (recordWriteReport card L S n p)
+unfolding recordWriteReport recordLength
+record-write-fits card L S n p =
+    let C = codeOf card in
+    with-fits card
     (λ C. if not (lengthOk L) then refused 6 [] else if not (setOk C S) then refused 8 [] else if not (eqb n (disks C * L)) then refused 7 [] else if ltb p (recordLength C L S) then refused 16 [] else accepted (recordLength C L S ∷ []))
-    (λ h. pick (not (lengthOk L)) _ _ (λ _. omega arith)
-    (λ e. pick (not (setOk (codeOf card) S)) _ _ (λ _. omega arith)
-    (λ _. pick (not (eqb n (disks (codeOf card) * L))) _ _ (λ _. omega arith)
-    (λ _. pick (ltb p (recordLength (codeOf card) L S)) _ _ (λ _. omega arith)
-    (λ _. length-small (codeOf card) L S (h .0) (h .1) (length-in L (not-false (lengthOk L) e) .1))))))
+    (λ h. test (lengthOk L) 6 _ (omega arith)
+    (λ e. test (setOk C S) 8 _ (omega arith)
+    (λ _. test (eqb n (disks C * L)) 7 _ (omega arith)
+    (λ _. pick (ltb p (recordLength C L S)) _ _ (λ _. plain 16 (omega arith))
+    (λ _. named 0 (recordLength C L S) [] (omega arith) (body-place C L S (disks C) (h .0) (h .1) (length-in L e .1) (le-refl (disks C))))))))
 
 -- what the reader answers, and the calls that run it first
-with-record-value : (file : List ℕ) (answer : Code → Report)
-    → (codeOf (bodyIn file 0) .k ≤ 16 → value (answer (codeOf (bodyIn file 0))) < 4294967296)
-    → value (withRecord file answer) < 4294967296
+with-record-fits : (file : List ℕ) (answer : Code → Report)
+    → (codeOf (bodyIn file 0) .k ≤ 16 → Fits (answer (codeOf (bodyIn file 0)))) → Fits (withRecord file answer)
 unfolding withRecord
-with-record-value file answer h =
-    pick (not (markOk file)) _ _ (λ _. omega arith)
-    (λ _. pick (not (lengthOk (lengthIn file))) _ _ (λ _. omega arith)
-    (λ _. pick (not (entriesOk file)) _ _ (λ _. omega arith)
-    (λ _. pick (not (cardEntryOk file)) _ _ (λ _. omega arith)
-    (λ _. with-value (bodyIn file 0)
-    (λ C. if not (stripEntriesOk C file) then refused 14 [] else if not (eqb (length file) (recordLength C (lengthIn file) (lostIn C file))) then refused 15 [] else answer C)
-    (λ g. pick (not (stripEntriesOk (codeOf (bodyIn file 0)) file)) _ _ (λ _. omega arith)
-    (λ _. pick (not (eqb (length file) (recordLength (codeOf (bodyIn file 0)) (lengthIn file) (lostIn (codeOf (bodyIn file 0)) file)))) _ _ (λ _. omega arith)
-    (λ _. h (g .0))))))))
-
-pub record-value : (file : List ℕ) → value (recordReport file) < 4294967296
-unfolding recordReport
-record-value file =
-    with-record-value file (λ C. accepted (C .k ∷ C .m ∷ lengthIn file ∷ lostIn C file ∷ [])) (λ h. omega (arith, h))
-
-pub body-value : (file : List ℕ) (d : ℕ) → value (bodyReport file d) < 4294967296
-unfolding bodyReport
-body-value file d =
+with-record-fits file answer h =
     let C = codeOf (bodyIn file 0) in
-    with-record-value file (λ D. if not (ltb d (disks D)) then refused 9 [] else if has (lostIn D file) d then refused 16 [] else accepted [])
-    (λ _. pick (not (ltb d (disks C))) _ _ (λ _. omega arith) (λ _. pick (has (lostIn C file) d) _ _ (λ _. omega arith) (λ _. omega arith)))
+    test (markOk file) 13 _ (omega arith)
+    (λ _. test (lengthOk (lengthIn file)) 6 _ (omega arith)
+    (λ _. test (entriesOk file) 14 _ (omega arith)
+    (λ _. test (cardEntryOk file) 14 _ (omega arith)
+    (λ _. with-fits (bodyIn file 0)
+    (λ C. if not (stripEntriesOk C file) then refused 14 [] else if not (eqb (length file) (recordLength C (lengthIn file) (lostIn C file))) then refused 15 [] else answer C)
+    (λ g. test (stripEntriesOk C file) 14 _ (omega arith)
+    (λ _. test (eqb (length file) (recordLength C (lengthIn file) (lostIn C file))) 15 _ (omega arith) (λ _. h (g .0))))))))
+
+pub record-fits : (file : List ℕ) → Fits (recordReport file)
+unfolding recordReport
+record-fits file =
+    with-record-fits file (λ C. accepted (C .k ∷ C .m ∷ lengthIn file ∷ lostIn C file ∷ [])) (λ h. named 0 _ _ (omega arith) (omega (arith, h)))
+
+pub body-fits : (file : List ℕ) (d : ℕ) → Fits (bodyReport file d)
+unfolding bodyReport
+body-fits file d =
+    let C = codeOf (bodyIn file 0) in
+    with-record-fits file (λ C. if not (ltb d (disks C)) then refused 9 [] else if has (lostIn C file) d then refused 16 [] else accepted [])
+    (λ _. test (ltb d (disks C)) 9 _ (omega arith)
+    (λ _. pick (has (lostIn C file) d) _ _ (λ _. plain 16 (omega arith)) (λ _. plain 0 (omega arith))))

@@ -1,6 +1,6 @@
 -- A report as one number, for a caller in C: the report's number, and 256 times its value.
 -- Assumes nothing.
-use Prim.Native.Nat.{ℕ, _+_, _*_}
+use Prim.Native.Nat.{ℕ, _+_, _*_, _<_}
 use lib.ListN.{getD}
 use Rattle.flat.specs.Faults.{Report, unlessRefused}
 
@@ -15,3 +15,8 @@ coded r = r .number + 256 * value r
 unfoldable pub codedFault : Report → ℕ
 unfolding unlessRefused
 codedFault r = unlessRefused r 0 (coded r)
+
+-- the report's number has 8 bits, and its value 32
+pub record Fits (r : Report) : Type 0 where
+  pub number-fits : r .number < 256
+  pub value-fits : value r < 4294967296

@@ -1,2 +1,3 @@
-// A report as one number, for a caller in C (specs/), and that the value it names is below 2 ^ 32, so that
-// number and value fit together (proofs/). No code: the exported calls go by it.
+// A report as one number, for a caller in C (specs/Coded.antt), and what such a caller may rely on
+// (specs/Theorems.antt): the number tells the report's number and its value, for every report of every
+// call. No code: the exported calls go by it.

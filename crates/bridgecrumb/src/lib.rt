@@ -2,20 +2,18 @@
 // in `cards` and `records` the others.
 //
 // An answer is one number: the report's number, 0 where the call is accepted, and 256 times the value
-// that the report names, if it names one. Where an accepted call names several, they go into arrays that
-// the caller lends. A slice is passed as a pointer and a count. Every byte string, set and slice is a
-// legal argument.
+// that the report names, if it names one; so its low 8 bits tell whether the call is refused. Where an
+// accepted call names several, they go into arrays that the caller lends. A slice is passed as a pointer
+// and a count. Every byte string, set and slice is a legal argument.
 ghost use mathlib.Core.Path.{_≡_};
 ghost use lib.ListN.{length};
 ghost use Rattle.flat.specs.Faults.{unlessRefused, encodeReport, encodeStripe, verdictReport, erasuresReport, erasuresVector, erasuresSlice, equationsReport, equationsSlice, rebuildReport, rebuildStripe};
 ghost use Rattle.bounds.specs.Coded.{coded};
 use codes::encoded_code;
-use codes::fault_code;
-use codes::joined;
+use codes::listed_code;
 use codes::rebuilt_code;
 use codes::told_code;
 use codes::verdict_code;
-use erasures::Listed;
 
 mod cards;
 mod records;
@@ -49,14 +47,12 @@ pub extern "C" fn bridgecrumb_list(card: &[u8], out: &mut [u32], vector: &mut [u
     let listing = erasures::list(card, out);
     let answer = listing.answer;
     let counts = listing.vector;
-    match answer {
-        Listed::Count(count) => {
-            *vector = counts;
-            joined(0, count)
-        }
-        Listed::Card(fault) => fault_code(fault),
-        Listed::Short(count) => joined(10, count),
+    let code = listed_code(answer);
+    if code % 256 != 0 {
+        return code;
     }
+    *vector = counts;
+    code
 }
 
 // The equation call: the equations of the disk into the slice, smaller size first, then smaller set

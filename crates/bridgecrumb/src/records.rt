@@ -6,7 +6,6 @@ ghost use lib.ListN.{length};
 ghost use Rattle.flat.specs.Records.{offsetIn, bodyLengthIn};
 ghost use Rattle.flat.specs.Faults.{unlessRefused, recordWriteReport, recordWriteOutput, recordReport, recordColumns, bodyReport};
 ghost use Rattle.bounds.specs.Coded.{coded, codedFault};
-use record::BodyCheck;
 use record::RecordCheck;
 use record_codes::record_fault_code;
 use record_codes::record_written_code;
@@ -63,13 +62,10 @@ pub extern "C" fn bridgecrumb_record_body(file: &[u8], disk: usize, place: &mut 
     let check = found.check;
     let at = found.at;
     let len = found.len;
-    match check {
-        BodyCheck::There => {
-            *place = [at, len];
-            0
-        }
-        BodyCheck::Record(_) => there_code(check),
-        BodyCheck::NoDisk => there_code(check),
-        BodyCheck::Lost => there_code(check),
+    let code = there_code(check);
+    if code % 256 != 0 {
+        return code;
     }
+    *place = [at, len];
+    code
 }

@@ -2,36 +2,39 @@
 // accepted, and 256 times the value that the report names, if it names one. Here stand those of the calls
 // on cards, sets and stripes, in crate record_codes those of the calls on record files.
 //
-// Every function assumes that the value is below 2 ^ 32, so that the number fits into 64 bits.
+// Every function assumes that the report fits: its value is below 2 ^ 32, so that both fit into 64 bits.
 ghost use mathlib.Core.Path.{_≡_};
-ghost use Prim.Native.Nat.{_+_, _*_, _<_};
+ghost use mathlib.Core.List.{[], _∷_};
+ghost use Rattle.flat.specs.Faults.{refused};
 ghost use Rattle.card.specs.Reports.{faultReport};
 ghost use Rattle.card_writer.specs.Reports.{writtenReport};
 ghost use Rattle.verdicts.specs.Reports.{verdictReport};
 ghost use Rattle.likeness.specs.Reports.{alikeReport};
+ghost use Rattle.erasures.specs.Reports.{listedReport};
 ghost use Rattle.equations.specs.Reports.{toldReport};
 ghost use Rattle.encoder.specs.Reports.{encodedReport};
 ghost use Rattle.decision.specs.Reports.{rebuiltReport};
-ghost use Rattle.bounds.specs.Coded.{value, coded};
+ghost use Rattle.bounds.specs.Coded.{coded, Fits};
 use card::CardFault;
 use card_writer::CardWritten;
 use encoder::Encoded;
 use equations::Told;
+use erasures::Listed;
 use likeness::Likeness;
 use rebuilder::Rebuilt;
 use verdicts::SetVerdict;
 
-// A report's number and its value as one number.
-pub fn joined(number: u64, value: usize) -> u64
-    requires { ⌜ (number < 256) × (value < 4294967296) ⌝ }
-    ensures { λ r. ⌜ r ≡ number + 256 * value ⌝ }
+// A report's number and its value packed into one.
+pub fn packed(number: u64, value: usize) -> u64
+    requires { ⌜ Fits (refused number (value ∷ [])) ⌝ }
+    ensures { λ r. ⌜ r ≡ coded (refused number (value ∷ [])) ⌝ }
 {
     number + 256 * (value as u64)
 }
 
 // A card's fault.
 pub fn fault_code(fault: CardFault) -> u64
-    requires { ⌜ value (faultReport fault) < 4294967296 ⌝ }
+    requires { ⌜ Fits (faultReport fault) ⌝ }
     ensures { λ r. ⌜ r ≡ coded (faultReport fault) ⌝ }
 {
     match fault {
@@ -39,13 +42,13 @@ pub fn fault_code(fault: CardFault) -> u64
         CardFault::DataCount => 2,
         CardFault::ParityCount => 3,
         CardFault::Length => 4,
-        CardFault::Column(j) => joined(5, j),
+        CardFault::Column(j) => packed(5, j),
     }
 }
 
 // The card writer's answer.
 pub fn written_code(written: CardWritten) -> u64
-    requires { ⌜ value (writtenReport written) < 4294967296 ⌝ }
+    requires { ⌜ Fits (writtenReport written) ⌝ }
     ensures { λ r. ⌜ r ≡ coded (writtenReport written) ⌝ }
 {
     match written {
@@ -57,7 +60,7 @@ pub fn written_code(written: CardWritten) -> u64
 
 // The encoder's answer.
 pub fn encoded_code(encoded: Encoded) -> u64
-    requires { ⌜ value (encodedReport encoded) < 4294967296 ⌝ }
+    requires { ⌜ Fits (encodedReport encoded) ⌝ }
     ensures { λ r. ⌜ r ≡ coded (encodedReport encoded) ⌝ }
 {
     match encoded {
@@ -70,12 +73,12 @@ pub fn encoded_code(encoded: Encoded) -> u64
 
 // The verdict call's answer.
 pub fn verdict_code(verdict: SetVerdict) -> u64
-    requires { ⌜ value (verdictReport verdict) < 4294967296 ⌝ }
+    requires { ⌜ Fits (verdictReport verdict) ⌝ }
     ensures { λ r. ⌜ r ≡ coded (verdictReport verdict) ⌝ }
 {
     match verdict {
-        SetVerdict::Fatal => joined(0, 1),
-        SetVerdict::Recoverable => joined(0, 0),
+        SetVerdict::Fatal => packed(0, 1),
+        SetVerdict::Recoverable => packed(0, 0),
         SetVerdict::Card(fault) => fault_code(fault),
         SetVerdict::OutsideSet => 8,
     }
@@ -83,36 +86,48 @@ pub fn verdict_code(verdict: SetVerdict) -> u64
 
 // The answer to whether two cards are alike.
 pub fn likeness_code(likeness: Likeness) -> u64
-    requires { ⌜ value (alikeReport likeness) < 4294967296 ⌝ }
+    requires { ⌜ Fits (alikeReport likeness) ⌝ }
     ensures { λ r. ⌜ r ≡ coded (alikeReport likeness) ⌝ }
 {
     match likeness {
-        Likeness::Alike => joined(0, 1),
-        Likeness::Different => joined(0, 0),
+        Likeness::Alike => packed(0, 1),
+        Likeness::Different => packed(0, 0),
         Likeness::Card(fault) => fault_code(fault),
+    }
+}
+
+// The lister's answer.
+pub fn listed_code(listed: Listed) -> u64
+    requires { ⌜ Fits (listedReport listed) ⌝ }
+    ensures { λ r. ⌜ r ≡ coded (listedReport listed) ⌝ }
+{
+    match listed {
+        Listed::Count(count) => packed(0, count),
+        Listed::Card(fault) => fault_code(fault),
+        Listed::Short(count) => packed(10, count),
     }
 }
 
 // The equation call's answer.
 pub fn told_code(told: Told) -> u64
-    requires { ⌜ value (toldReport told) < 4294967296 ⌝ }
+    requires { ⌜ Fits (toldReport told) ⌝ }
     ensures { λ r. ⌜ r ≡ coded (toldReport told) ⌝ }
 {
     match told {
-        Told::Count(count) => joined(0, count),
+        Told::Count(count) => packed(0, count),
         Told::Card(fault) => fault_code(fault),
         Told::NoDisk => 9,
-        Told::Short(count) => joined(10, count),
+        Told::Short(count) => packed(10, count),
     }
 }
 
 // The rebuilder's answer.
 pub fn rebuilt_code(rebuilt: Rebuilt) -> u64
-    requires { ⌜ value (rebuiltReport rebuilt) < 4294967296 ⌝ }
+    requires { ⌜ Fits (rebuiltReport rebuilt) ⌝ }
     ensures { λ r. ⌜ r ≡ coded (rebuiltReport rebuilt) ⌝ }
 {
     match rebuilt {
-        Rebuilt::Disks(count) => joined(0, count as usize),
+        Rebuilt::Disks(count) => packed(0, count as usize),
         Rebuilt::Card(fault) => fault_code(fault),
         Rebuilt::StripLength => 6,
         Rebuilt::OutsideSet => 8,

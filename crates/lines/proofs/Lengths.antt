@@ -1,24 +1,42 @@
--- How long the lines are.
+-- How long the lines are, and at most.
 -- Assumes nothing.
 use mathlib.Core.Path.{_≡_}
 use mathlib.Core.List.{List}
-use Prim.Native.Nat.{ℕ, _+_}
+use Prim.Native.Nat.{ℕ, suc, _+_, _*_, _^_, _≤_, _<_}
 use native.Mathlib.Omega.{arith}
 use lib.ListN.{length, length-append}
+use lib.Pow.{pow-mono}
 use Rattle.gf2.specs.Sets.{size}
+use Rattle.gf2.proofs.Sizes.{size-lt}
 use Rattle.flat.specs.Lists.{each}
+use Rattle.flat.proofs.Members.{In}
 use Rattle.decimals.specs.Decimal.{decimal, spaced}
-use Rattle.decimals.proofs.Digits.{length-spaced}
-use Rattle.lines.specs.Lines.{codeLine, entryLine, vectorLine}
+use Rattle.decimals.proofs.Digits.{length-most, length-spaced}
+use Rattle.decimals.proofs.Pieces.{each-most}
+use Rattle.lines.specs.Lines.{line, entryLine}
 
 pub length-entry : (S : ℕ) → length (entryLine S) ≡ length (decimal (size S)) + length (decimal S) + 2
 unfolding entryLine
 length-entry S = simp (length-append, length-spaced) (omega arith)
 
-pub length-code : (k m : ℕ) → length (codeLine k m) ≡ length (decimal k) + length (decimal m) + 7
-unfolding codeLine
-length-code k m = simp (length-append, length-spaced) (omega arith)
+pub length-line : (word numbers : List ℕ) → length (line word numbers) ≡ length word + length (each spaced numbers) + 1
+unfolding line
+length-line word numbers = simp length-append (omega arith)
 
-pub length-vector : (vs : List ℕ) → length (vectorLine vs) ≡ length (each spaced vs) + 7
-unfolding vectorLine
-length-vector vs = simp length-append (omega arith)
+-- ---- at most
+
+-- a set of at most 32 disks: two digits, a space, ten digits and the line end
+pub entry-most : (n S : ℕ) → n ≤ 32 → S < 2 ^ n → length (entryLine S) ≤ 14
+entry-most n S h l =
+    omega (
+      arith,
+      length-entry S,
+      length-most 1 (size S) (omega (arith, size-lt n S l)),
+      length-most 9 S (omega (arith, pow-mono {i = n} {j = 32} h)),
+    )
+
+-- numbers of at most b digits
+pub line-most : (b : ℕ) (word numbers : List ℕ) → ((v : ℕ) → In v numbers → length (decimal v) ≤ b)
+    → length (line word numbers) ≤ length word + suc b * length numbers + 1
+line-most b word numbers h =
+    omega (arith, length-line word numbers, each-most spaced (suc b) numbers (λ v t. omega (arith, length-spaced v, h v t)))

@@ -9,21 +9,10 @@ use Rattle.decimals.specs.Decimal.{decimal, spaced}
 abbrev pub lineEnd : List ℕ
 lineEnd = 0x0A ∷ []
 
--- the words `code` and `vector`
-abbrev pub codeWord : List ℕ
-codeWord = 0x63 ∷ 0x6F ∷ 0x64 ∷ 0x65 ∷ []
-
-abbrev pub vectorWord : List ℕ
-vectorWord = 0x76 ∷ 0x65 ∷ 0x63 ∷ 0x74 ∷ 0x6F ∷ 0x72 ∷ []
-
--- `code`, k and m
-unfoldable pub codeLine : ℕ → ℕ → List ℕ
-codeLine k m = codeWord ++ spaced k ++ spaced m ++ lineEnd
+-- a word and its numbers
+unfoldable pub line : List ℕ → List ℕ → List ℕ
+line word numbers = word ++ each spaced numbers ++ lineEnd
 
 -- the size of a set and its number
 unfoldable pub entryLine : ℕ → List ℕ
 entryLine S = decimal (size S) ++ spaced S ++ lineEnd
-
--- `vector` and its numbers
-unfoldable pub vectorLine : List ℕ → List ℕ
-vectorLine vs = vectorWord ++ each spaced vs ++ lineEnd

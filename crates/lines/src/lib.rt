@@ -1,4 +1,4 @@
-// The lines of a listing, put at a place of a lent buffer: the length of the sets' lines, then the bytes.
+// The lines of a listing, each put at a place of a lent buffer: how long they are, then the bytes.
 //
 // What the lines are stands in specs/Lines.antt. Assumes nothing.
 ghost use mathlib.Core.Path.{_≡_};
@@ -6,7 +6,7 @@ ghost use Prim.Native.Nat.{_+_, _≤_};
 ghost use lib.ListN.{length};
 ghost use Rattle.flat.specs.Lists.{each};
 ghost use Rattle.decimals.specs.Places.{Put};
-ghost use Rattle.lines.specs.Lines.{codeLine, entryLine, vectorLine};
+ghost use Rattle.lines.specs.Lines.{line, entryLine};
 
 // The length of a set's line.
 pub fn entry_length(set: u32) -> usize
@@ -51,23 +51,20 @@ pub fn put_entries(entries: &[u32], out: &mut [u8], at: usize) -> usize
     next
 }
 
-// The first line of a listing.
-pub fn put_code(k: usize, m: usize, out: &mut [u8], at: usize) -> usize
-    requires { ⌜ at + length (codeLine k m) ≤ length (now out) ⌝ }
-    ensures { λ r. ⌜ Put (codeLine k m) at (now (out .entry)) (now (out .exit)) r ⌝ }
+// The length of a word's line.
+pub fn line_length(word: &[u8], numbers: &[usize]) -> usize
+    requires { ⌜ (length (now word) ≤ 16) × (length (now numbers) ≤ 32) ⌝ }
+    ensures { λ r. ⌜ (r ≡ length (line (now (word .entry)) (now (numbers .entry)))) × (r ≤ 689) ⌝ }
 {
-    let after_word = decimals::put(b"code", out, at);
-    let after_k = decimals::put_spaced(k, out, after_word);
-    let after_m = decimals::put_spaced(m, out, after_k);
-    decimals::put(b"\n", out, after_m)
+    word.len() + decimals::numbers_length(numbers) + 1
 }
 
-// The last line of a listing.
-pub fn put_vector(vector: &[usize], out: &mut [u8], at: usize) -> usize
-    requires { ⌜ at + length (vectorLine (now vector)) ≤ length (now out) ⌝ }
-    ensures { λ r. ⌜ Put (vectorLine (now (vector .entry))) at (now (out .entry)) (now (out .exit)) r ⌝ }
+// A word's line.
+pub fn put_line(word: &[u8], numbers: &[usize], out: &mut [u8], at: usize) -> usize
+    requires { ⌜ at + length (line (now word) (now numbers)) ≤ length (now out) ⌝ }
+    ensures { λ r. ⌜ Put (line (now (word .entry)) (now (numbers .entry))) at (now (out .entry)) (now (out .exit)) r ⌝ }
 {
-    let after_word = decimals::put(b"vector", out, at);
-    let after_numbers = decimals::put_numbers(vector, out, after_word);
+    let after_word = decimals::put(word, out, at);
+    let after_numbers = decimals::put_numbers(numbers, out, after_word);
     decimals::put(b"\n", out, after_numbers)
 }

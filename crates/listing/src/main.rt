@@ -1,8 +1,17 @@
 // The listing program: a card from standard input, its list of minimal erasures to standard output.
 //
-// A text has at most 16,000 lines of at most 14 bytes and two more lines, which the buffer holds.
+// The buffer holds every text, by `PrintedWhole` of crate render, so what is printed is the whole.
+ghost use mathlib.Core.Path.{_≡_};
+ghost use Rattle.render.specs.Printed.{printed};
 use libc::STDIN_FILENO;
 use libc::STDOUT_FILENO;
+
+// Prints the text of a card: all that document 01 says, and nothing else.
+fn print(card: &[u8], text: &[u8])
+    requires { ⌜ now text ≡ printed (now card) 16000 ⌝ }
+{
+    io::write_all(STDOUT_FILENO, text);
+}
 
 fn main() {
     let mut card = [0u8; 35];
@@ -10,5 +19,5 @@ fn main() {
     let mut entries = [0u32; 16000];
     let mut out = [0u8; 262144];
     let answer = render::render(&card[..read], &mut entries, &mut out);
-    io::write_all(STDOUT_FILENO, render::shown(answer, &out));
+    print(&card[..read], render::shown(answer, &out));
 }

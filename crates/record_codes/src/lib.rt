@@ -1,25 +1,24 @@
 // The answers of the calls on record files as one number each, for a caller in C (see crate codes).
 //
-// Every function assumes that the value is below 2 ^ 32, so that the number fits into 64 bits.
+// Every function assumes that the report fits, as there.
 ghost use mathlib.Core.Path.{_≡_};
-ghost use Prim.Native.Nat.{_<_};
 ghost use Rattle.record_writer.specs.Reports.{writtenReport};
 ghost use Rattle.record_checks.specs.Reports.{recordFaultReport};
 ghost use Rattle.record.specs.Reports.{thereReport};
-ghost use Rattle.bounds.specs.Coded.{value, coded};
+ghost use Rattle.bounds.specs.Coded.{coded, Fits};
 use codes::fault_code;
-use codes::joined;
+use codes::packed;
 use record::BodyCheck;
 use record::RecordFault;
 use record::RecordWritten;
 
 // The writer's answer.
 pub fn record_written_code(written: RecordWritten) -> u64
-    requires { ⌜ value (writtenReport written) < 4294967296 ⌝ }
+    requires { ⌜ Fits (writtenReport written) ⌝ }
     ensures { λ r. ⌜ r ≡ coded (writtenReport written) ⌝ }
 {
     match written {
-        RecordWritten::Length(len) => joined(0, len),
+        RecordWritten::Length(len) => packed(0, len),
         RecordWritten::Card(fault) => fault_code(fault),
         RecordWritten::StripLength => 6,
         RecordWritten::OutsideSet => 8,
@@ -30,7 +29,7 @@ pub fn record_written_code(written: RecordWritten) -> u64
 
 // A record's fault.
 pub fn record_fault_code(fault: RecordFault) -> u64
-    requires { ⌜ value (recordFaultReport fault) < 4294967296 ⌝ }
+    requires { ⌜ Fits (recordFaultReport fault) ⌝ }
     ensures { λ r. ⌜ r ≡ coded (recordFaultReport fault) ⌝ }
 {
     match fault {
@@ -44,7 +43,7 @@ pub fn record_fault_code(fault: RecordFault) -> u64
 
 // The answer of the call beside the body call.
 pub fn there_code(there: BodyCheck) -> u64
-    requires { ⌜ value (thereReport there) < 4294967296 ⌝ }
+    requires { ⌜ Fits (thereReport there) ⌝ }
     ensures { λ r. ⌜ r ≡ coded (thereReport there) ⌝ }
 {
     match there {

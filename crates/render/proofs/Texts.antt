@@ -1,22 +1,24 @@
 -- The text that is printed, by the lister's answer.
 -- Assumes nothing.
-use mathlib.Core.Path.{_≡_, sym, ap, _∙_}
+use mathlib.Core.Path.{_≡_, sym, ap, ap₂, _∙_}
 use mathlib.Core.List.{List, [], _∷_}
 use Prim.Native.Nat.{ℕ, _≤_}
 use native.Mathlib.Omega.{arith}
 use lib.ListN.{length, take, drop, length-append}
+use lib.Pow.{pow-mono}
 use Rattle.flat.specs.Lists.{padded}
-use Rattle.flat.specs.Cards.{Code, codeOf, cardLength}
+use Rattle.flat.specs.Cards.{Code, codeOf}
 use Rattle.flat.specs.Erasures.{erasures, vector}
 use Rattle.flat.specs.Faults.{Report, accepted, refused, cardReport, listReport, listSlice, erasuresReport, erasuresVector, erasuresSlice}
 use Rattle.flat.proofs.Lists.{take-padded}
-use Rattle.flat.proofs.Reports.{unless-accepted, unless-refused, with-out, list-counted}
-use Rattle.flat.proofs.Cards.{Accepted, accepted-card, card-accepted, count-in}
+use Rattle.flat.proofs.Reports.{unless-accepted, unless-refused, with-accepted, list-counted}
+use Rattle.flat.proofs.Cards.{Accepted, accepted-card, count-in}
 use Rattle.flat.proofs.Verdicts.{erasures-written}
 use Rattle.card.specs.declared.CardFault.{CardFault}
 use Rattle.card.specs.Reports.{faultReport}
 use Rattle.card.proofs.Laws.{unless-fault}
 use Rattle.erasures.proofs.Enumerated.{vector-length}
+use Rattle.bounds.proofs.ListLengths.{erasures-few}
 use Rattle.text.specs.Text.{listingText, refusedText}
 use Rattle.render.specs.Printed.{printed}
 
@@ -32,51 +34,55 @@ printed-short card n count e =
     unless-refused (erasuresReport card n) 9 (count ∷ []) (listingText (codeOf card .k) (codeOf card .m) (erasures (codeOf card)) (vector (codeOf card))) (refusedText (erasuresReport card n .number)) (sym e)
     ∙ ap (λ (r : Report). refusedText (r .number)) (sym e)
 
--- a card whose list was written into a slice
-module _ (card slice : List ℕ) (count : ℕ) (e : accepted (count ∷ []) ≡ erasuresReport card (length slice)) where
+-- a card that the check found good, and whose list was written into a slice
+module _ (card : List ℕ) (k m : ℕ) (ok : cardReport card ≡ accepted (k ∷ m ∷ [])) where
   abbrev C : Code
   C = codeOf card
 
-  by-card : (cardReport card .number ≡ 0) × (listReport (erasures C) (length slice) ≡ accepted (count ∷ []))
-  unfolding erasuresReport
-  by-card = with-out card (count ∷ []) (λ D. listReport (erasures D) (length slice)) (sym e)
+  good : Accepted card k m
+  good = accepted-card card k m ok
 
-  ok : cardReport card ≡ accepted (C .k ∷ C .m ∷ [])
-  ok = card-accepted card (by-card .0)
+  pub counts : (1 ≤ k) × (k ≤ 16) × (m ≤ 16)
+  counts = let a = count-in k (good .sound .k-ok) in (a .0, a .1, count-in m (good .sound .m-ok) .1)
 
-  counted : (length (erasures C) ≡ count) × (count ≤ length slice)
-  counted = list-counted (erasures C) (length slice) count (by-card .1)
+  -- the list is that of a code with these counts
+  data-disks : C .k ≡ k
+  data-disks = ap (λ (D : Code). D .k) (good .is)
 
-  good : Accepted card (C .k) (C .m)
-  good = accepted-card card (C .k) (C .m) ok
+  parity-disks : C .m ≡ m
+  parity-disks = ap (λ (D : Code). D .m) (good .is)
 
-  pub long : 2 ≤ length card
-  unfolding cardLength
-  long = omega (arith, good .size)
+  module _ (slice : List ℕ) (count : ℕ) (e : accepted (count ∷ []) ≡ erasuresReport card (length slice)) where
+    counted : (length (erasures C) ≡ count) × (count ≤ length slice)
+    unfolding erasuresReport
+    counted =
+        list-counted (erasures C) (length slice) count
+        (sym (with-accepted card (k ∷ m ∷ []) (λ D. listReport (erasures D) (length slice)) ok) ∙ sym e)
 
-  pub parities : C .m ≤ 16
-  parities = count-in (C .m) (good .sound .m-ok) .1
+    -- no list is longer than the text can be
+    pub few : count ≤ 65536
+    few =
+        let a = erasures-few C in
+        omega (arith, counts, counted, data-disks, pow-mono {i = C .k} {j = 16} (omega (arith, counts, data-disks)))
 
-  pub entries-are : take count (erasuresSlice card slice) ≡ erasures C
-  entries-are = erasures-written card (C .k) (C .m) ok slice count (sym e)
+    pub entries-are : take count (erasuresSlice card slice) ≡ erasures C
+    entries-are = erasures-written card k m ok slice count (sym e)
 
-  -- the entries are a part of the slice at exit
-  pub room : (l : List ℕ) → l ≡ erasuresSlice card slice → count ≤ length l
-  unfolding erasuresSlice listSlice
-  room l q =
-      let w = unless-accepted (erasuresReport card (length slice)) (count ∷ []) (listSlice (erasures C) slice) slice (sym e) in
-      omega (arith, ap length (q ∙ w), counted .0, length-append (erasures C) (drop (length (erasures C)) slice))
+    -- the entries are a part of the slice at exit
+    pub room : (l : List ℕ) → l ≡ erasuresSlice card slice → count ≤ length l
+    unfolding erasuresSlice listSlice
+    room l q =
+        let w = unless-accepted (erasuresReport card (length slice)) (count ∷ []) (listSlice (erasures C) slice) slice (sym e) in
+        omega (arith, ap length (q ∙ w), counted .0, length-append (erasures C) (drop (length (erasures C)) slice))
 
-  pub fits : count ≤ length slice
-  fits = counted .1
+    pub vector-is : (v : List ℕ) → v ≡ erasuresVector card (length slice) → take m v ≡ vector C
+    unfolding erasuresVector
+    vector-is v q =
+        ap (take m) (q ∙ ap (padded 17) (unless-accepted (erasuresReport card (length slice)) (count ∷ []) (vector C) [] (sym e)))
+        ∙ take-padded 17 m (vector C) (vector-length C ∙ parity-disks)
 
-  pub vector-is : (v : List ℕ) → v ≡ erasuresVector card (length slice) → take (C .m) v ≡ vector C
-  unfolding erasuresVector
-  vector-is v q =
-      ap (take (C .m)) (q ∙ ap (padded 17) (unless-accepted (erasuresReport card (length slice)) (count ∷ []) (vector C) [] (sym e)))
-      ∙ take-padded 17 (C .m) (vector C) (vector-length C)
-
-  pub printed-listing : printed card (length slice) ≡ listingText (C .k) (C .m) (erasures C) (vector C)
-  unfolding printed
-  printed-listing =
-      unless-accepted (erasuresReport card (length slice)) (count ∷ []) (listingText (C .k) (C .m) (erasures C) (vector C)) (refusedText (erasuresReport card (length slice) .number)) (sym e)
+    pub printed-listing : printed card (length slice) ≡ listingText k m (erasures C) (vector C)
+    unfolding printed
+    printed-listing =
+        unless-accepted (erasuresReport card (length slice)) (count ∷ []) (listingText (C .k) (C .m) (erasures C) (vector C)) (refusedText (erasuresReport card (length slice) .number)) (sym e)
+        ∙ ap₂ (λ (a b : ℕ). listingText a b (erasures C) (vector C)) data-disks parity-disks

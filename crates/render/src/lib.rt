@@ -1,13 +1,15 @@
 // What the listing program prints for a card, rendered into a lent buffer.
 //
-// The text is that of specs/Printed.antt.
+// The text is that of specs/Printed.antt; how long a buffer holds it whole stands in specs/Theorems.antt.
+// Assumes nothing.
 ghost use mathlib.Core.Path.{_≡_};
-ghost use Prim.Native.Nat.{_≤_};
+ghost use mathlib.Core.List.{[], _∷_};
 ghost use lib.ListN.{length};
-ghost use Rattle.flat.specs.Faults.{erasuresSlice};
+ghost use Rattle.flat.specs.Faults.{accepted, cardReport, erasuresSlice};
 ghost use Rattle.card.specs.Reports.{faultReport};
 ghost use Rattle.text.specs.Answers.{textAnswer, textBuffer};
 ghost use Rattle.render.specs.Printed.{printed, shownPart};
+use card::CardCheck;
 use card::CardFault;
 use erasures::Listed;
 use text::Text;
@@ -25,10 +27,9 @@ fn number(fault: CardFault) -> usize
     }
 }
 
-// The text for a card, with the entries lent for its list. A buffer too short for the text stays as it
-// was, and the answer is the length needed.
-pub fn render(card: &[u8], entries: &mut [u32], out: &mut [u8]) -> Text
-    requires { ⌜ length (now entries) ≤ 65536 ⌝ }
+// The text for a card that the check found good.
+fn listing(card: &[u8], k: usize, m: usize, entries: &mut [u32], out: &mut [u8]) -> Text
+    requires { ⌜ cardReport (now card) ≡ accepted (k ∷ m ∷ []) ⌝ }
     ensures { λ r. ⌜ r ≡ textAnswer (printed (now (card .entry)) (length (now (entries .entry)))) (length (now (out .entry))) ⌝ }
     ensures { λ _. ⌜ now (out .exit) ≡ textBuffer (printed (now (card .entry)) (length (now (entries .entry)))) (now (out .entry)) ⌝ }
     ensures { λ _. ⌜ now (entries .exit) ≡ erasuresSlice (now (card .entry)) (now (entries .entry)) ⌝ }
@@ -37,13 +38,22 @@ pub fn render(card: &[u8], entries: &mut [u32], out: &mut [u8]) -> Text
     let answer = listing.answer;
     let vector = listing.vector;
     match answer {
-        Listed::Card(fault) => text::refused(number(fault), out),
+        Listed::Count(count) => text::listing(k, m, &entries[..count], &vector[..m], out),
         Listed::Short(_) => text::refused(10, out),
-        Listed::Count(count) => {
-            let k = card[0] as usize;
-            let m = card[1] as usize;
-            text::listing(k, m, &entries[..count], &vector[..m], out)
-        }
+        Listed::Card(fault) => text::refused(number(fault), out),
+    }
+}
+
+// The text for a card, with the entries lent for its list. A buffer too short for the text stays as it
+// was, and the answer is the length needed.
+pub fn render(card: &[u8], entries: &mut [u32], out: &mut [u8]) -> Text
+    ensures { λ r. ⌜ r ≡ textAnswer (printed (now (card .entry)) (length (now (entries .entry)))) (length (now (out .entry))) ⌝ }
+    ensures { λ _. ⌜ now (out .exit) ≡ textBuffer (printed (now (card .entry)) (length (now (entries .entry)))) (now (out .entry)) ⌝ }
+    ensures { λ _. ⌜ now (entries .exit) ≡ erasuresSlice (now (card .entry)) (now (entries .entry)) ⌝ }
+{
+    match card::check(card) {
+        CardCheck::Bad(fault) => text::refused(number(fault), out),
+        CardCheck::Good { k, m } => listing(card, k, m, entries, out),
     }
 }
 

@@ -21,8 +21,9 @@ fn listing_length(k: usize, m: usize, entries: &[u32], vector: &[usize]) -> usiz
     requires { ⌜ (length (now entries) ≤ 65536) × (length (now vector) ≤ 32) ⌝ }
     ensures { λ r. ⌜ r ≡ length (listingText k m (now (entries .entry)) (now (vector .entry))) ⌝ }
 {
-    let code = decimals::decimal_length(k) + decimals::decimal_length(m) + 7;
-    code + lines::entries_length(entries) + decimals::numbers_length(vector) + 7
+    let counts = [k, m];
+    let first = lines::line_length(b"code", &counts);
+    first + lines::entries_length(entries) + lines::line_length(b"vector", vector)
 }
 
 // A listing.
@@ -37,19 +38,10 @@ fn put_listing(
     requires { ⌜ at + length (listingText k m (now entries) (now vector)) ≤ length (now out) ⌝ }
     ensures { λ r. ⌜ Put (listingText k m (now (entries .entry)) (now (vector .entry))) at (now (out .entry)) (now (out .exit)) r ⌝ }
 {
-    let after_code = lines::put_code(k, m, out, at);
-    let after_entries = lines::put_entries(entries, out, after_code);
-    lines::put_vector(vector, out, after_entries)
-}
-
-// The line of a refusal.
-fn put_refused(number: usize, out: &mut [u8], at: usize) -> usize
-    requires { ⌜ at + length (refusedText number) ≤ length (now out) ⌝ }
-    ensures { λ r. ⌜ Put (refusedText number) at (now (out .entry)) (now (out .exit)) r ⌝ }
-{
-    let after_word = decimals::put(b"refused", out, at);
-    let after_number = decimals::put_spaced(number, out, after_word);
-    decimals::put(b"\n", out, after_number)
+    let counts = [k, m];
+    let after_first = lines::put_line(b"code", &counts, out, at);
+    let after_entries = lines::put_entries(entries, out, after_first);
+    lines::put_line(b"vector", vector, out, after_entries)
 }
 
 // The listing into the buffer, where it fits; else its length.
@@ -71,10 +63,11 @@ pub fn refused(number: usize, out: &mut [u8]) -> Text
     ensures { λ r. ⌜ r ≡ textAnswer (refusedText number) (length (now (out .entry))) ⌝ }
     ensures { λ _. ⌜ now (out .exit) ≡ textBuffer (refusedText number) (now (out .entry)) ⌝ }
 {
-    let line = decimals::decimal_length(number) + 9;
-    if out.len() < line {
-        return Text::Short(line);
+    let numbers = [number];
+    let length = lines::line_length(b"refused", &numbers);
+    if out.len() < length {
+        return Text::Short(length);
     }
-    put_refused(number, out, 0);
-    Text::Written(line)
+    lines::put_line(b"refused", &numbers, out, 0);
+    Text::Written(length)
 }

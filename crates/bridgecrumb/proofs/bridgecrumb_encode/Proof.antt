@@ -1,12 +1,8 @@
 -- `bridgecrumb::bridgecrumb_encode` meets its contract. Assumes nothing.
-use mathlib.Core.Path.{sym, ap, _∙_, subst}
-use Prim.Native.Nat.{_<_}
+use mathlib.Core.Path.{ap, _∙_}
 use borrow.Author.Needs.{needs}
-use denote.Ref.{now}
-use lib.ListN.{length}
-use Rattle.flat.specs.Faults.{Report}
-use Rattle.bounds.specs.Coded.{value, coded}
-use Rattle.bounds.proofs.Values.{encode-value}
+use Rattle.bounds.specs.Coded.{coded}
+use Rattle.bounds.proofs.Values.{encode-fits}
 use Rattle.bridgecrumb.proofs.bridgecrumb_encode.Statement.{statement}
 use Rattle.bridgecrumb.proofs.bridgecrumb_encode.Tie as tie
 
@@ -14,9 +10,7 @@ encode-requires : tie.Need-encode-requires
 encode-requires c κs = search needs
 
 encoded-code-requires : tie.Need-encoded-code-requires
-encoded-code-requires c κs =
-    let a = c .before .before .before .before .before .before .args in
-    subst (λ (r : Report). value r < 4294967296) (sym (c .before .before .encode .ensures .0)) (encode-value (now (a .card)) (a .l) (length (now (a .stripe))))
+encoded-code-requires c κs = rw (c .before .before .encode .ensures .0) (encode-fits _ _ _)
 
 same-length : tie.Need-same-length
 same-length c = search needs

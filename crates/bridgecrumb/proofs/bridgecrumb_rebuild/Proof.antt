@@ -1,11 +1,8 @@
 -- `bridgecrumb::bridgecrumb_rebuild` meets its contract. Assumes nothing.
-use mathlib.Core.Path.{sym, ap, _∙_, subst}
-use Prim.Native.Nat.{_<_}
+use mathlib.Core.Path.{ap, _∙_}
 use borrow.Author.Needs.{needs}
-use denote.Ref.{now}
-use Rattle.flat.specs.Faults.{Report}
-use Rattle.bounds.specs.Coded.{value, coded}
-use Rattle.bounds.proofs.Values.{rebuild-value}
+use Rattle.bounds.specs.Coded.{coded}
+use Rattle.bounds.proofs.Values.{rebuild-fits}
 use Rattle.bridgecrumb.proofs.bridgecrumb_rebuild.Statement.{statement}
 use Rattle.bridgecrumb.proofs.bridgecrumb_rebuild.Tie as tie
 
@@ -13,9 +10,7 @@ rebuild-requires : tie.Need-rebuild-requires
 rebuild-requires c κs = search needs
 
 rebuilt-code-requires : tie.Need-rebuilt-code-requires
-rebuilt-code-requires c κs =
-    let a = c .before .before .before .before .before .before .args in
-    subst (λ (r : Report). value r < 4294967296) (sym (c .before .before .rebuild .ensures .0)) (rebuild-value (now (a .card)) (a .l) (a .lost) (now (a .stripe)))
+rebuilt-code-requires c κs = rw (c .before .before .rebuild .ensures .0) (rebuild-fits _ _ _ _)
 
 same-length : tie.Need-same-length
 same-length c = search needs

@@ -1,10 +1,5 @@
 -- `codes::encoded_code` meets its contract. Assumes nothing.
-use mathlib.Core.Path.{sym, ap, _∙_, subst}
-use Prim.Native.Nat.{_<_}
 use borrow.Author.Needs.{needs}
-use Rattle.encoder.specs.declared.Encoded.{Encoded}
-use Rattle.encoder.specs.Reports.{encodedReport}
-use Rattle.bounds.specs.Coded.{value, coded}
 use Rattle.codes.proofs.encoded_code.Statement.{statement}
 use Rattle.codes.proofs.encoded_code.Tie as tie
 
@@ -15,8 +10,7 @@ enum-known-encoded : tie.Need-enum-known-encoded
 enum-known-encoded c = search needs
 
 fault-code-requires : tie.Need-fault-code-requires
-fault-code-requires c κs =
-    subst (λ (e : Encoded). value (encodedReport e) < 4294967296) (c .before .encoded .given .1) (c .before .before .before .pre)
+fault-code-requires c κs = rw (c .before .encoded .given .1) at (c .before .before .before .pre)
 
 enum-told-2 : tie.Need-enum-told-2
 enum-told-2 c = search needs
@@ -25,16 +19,16 @@ enum-told-3 : tie.Need-enum-told-3
 enum-told-3 c = search needs
 
 returns : tie.Need-returns
-returns c = ap (λ (e : Encoded). coded (encodedReport e)) (sym (c .enum-told .given .1))
+returns c = rw (c .enum-told .given .1)
 
 returns-2 : tie.Need-returns-2
-returns-2 c = c .fault-code .ensures ∙ ap (λ (e : Encoded). coded (encodedReport e)) (sym (c .before .before .encoded .given .1))
+returns-2 c = rw (c .before .before .encoded .given .1) (c .fault-code .ensures)
 
 returns-3 : tie.Need-returns-3
-returns-3 c = ap (λ (e : Encoded). coded (encodedReport e)) (sym (c .enum-told2 .given .1))
+returns-3 c = rw (c .enum-told2 .given .1)
 
 returns-4 : tie.Need-returns-4
-returns-4 c = ap (λ (e : Encoded). coded (encodedReport e)) (sym (c .enum-told3 .given .1))
+returns-4 c = rw (c .enum-told3 .given .1)
 
 pub encoded-code-spec : {M : Type 1} → statement M
 encoded-code-spec =

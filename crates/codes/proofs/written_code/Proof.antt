@@ -1,10 +1,5 @@
 -- `codes::written_code` meets its contract. Assumes nothing.
-use mathlib.Core.Path.{sym, ap, _∙_, subst}
-use Prim.Native.Nat.{_<_}
 use borrow.Author.Needs.{needs}
-use Rattle.card_writer.specs.declared.CardWritten.{CardWritten}
-use Rattle.card_writer.specs.Reports.{writtenReport}
-use Rattle.bounds.specs.Coded.{value, coded}
 use Rattle.codes.proofs.written_code.Statement.{statement}
 use Rattle.codes.proofs.written_code.Tie as tie
 
@@ -15,20 +10,19 @@ enum-known-written : tie.Need-enum-known-written
 enum-known-written c = search needs
 
 fault-code-requires : tie.Need-fault-code-requires
-fault-code-requires c κs =
-    subst (λ (w : CardWritten). value (writtenReport w) < 4294967296) (c .before .written .given .1) (c .before .before .before .pre)
+fault-code-requires c κs = rw (c .before .written .given .1) at (c .before .before .before .pre)
 
 enum-told-2 : tie.Need-enum-told-2
 enum-told-2 c = search needs
 
 returns : tie.Need-returns
-returns c = ap (λ (w : CardWritten). coded (writtenReport w)) (sym (c .enum-told .given .1))
+returns c = rw (c .enum-told .given .1)
 
 returns-2 : tie.Need-returns-2
-returns-2 c = c .fault-code .ensures ∙ ap (λ (w : CardWritten). coded (writtenReport w)) (sym (c .before .before .written .given .1))
+returns-2 c = rw (c .before .before .written .given .1) (c .fault-code .ensures)
 
 returns-3 : tie.Need-returns-3
-returns-3 c = ap (λ (w : CardWritten). coded (writtenReport w)) (sym (c .enum-told2 .given .1))
+returns-3 c = rw (c .enum-told2 .given .1)
 
 pub written-code-spec : {M : Type 1} → statement M
 written-code-spec =

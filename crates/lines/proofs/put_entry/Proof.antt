@@ -58,17 +58,12 @@ put-requires c κs =
     let p = c .before .before .before .before in
     behind lineEnd (both p) (p .before .before .before .before .before .before .before .before .pre)
 
-whole : (c : tie.After-put) →
-    let a = c .before .before .before .before .before .before .before .before .before .before .before .before .before .args in
-    Put (entryLine (a .set)) (a .at) (now (a .out)) (c .put .last .1 .0) (c .put .result)
+returns : tie.Need-returns
 unfolding entryLine
-whole c = put-then (both (c .before .before .before .before .before)) (c .put .ensures)
+returns c = put-then (both (c .before .before .before .before .before .before .before)) (c .before .before .put .ensures)
 
 same-length : tie.Need-same-length
-same-length c = put-length (whole (c .before .before))
-
-returns : tie.Need-returns
-returns c = whole (c .before .before)
+same-length c = put-length (returns c)
 
 pub put-entry-spec : {M : Type 1} → statement M
 put-entry-spec =

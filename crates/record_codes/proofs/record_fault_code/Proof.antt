@@ -1,10 +1,5 @@
 -- `record_codes::record_fault_code` meets its contract. Assumes nothing.
-use mathlib.Core.Path.{sym, ap, _∙_, subst}
-use Prim.Native.Nat.{_<_}
 use borrow.Author.Needs.{needs}
-use Rattle.record_checks.specs.declared.RecordFault.{RecordFault}
-use Rattle.record_checks.specs.Reports.{recordFaultReport}
-use Rattle.bounds.specs.Coded.{value, coded}
 use Rattle.record_codes.proofs.record_fault_code.Statement.{statement}
 use Rattle.record_codes.proofs.record_fault_code.Tie as tie
 
@@ -21,25 +16,25 @@ enum-known-fault : tie.Need-enum-known-fault
 enum-known-fault c = search needs
 
 fault-code-requires : tie.Need-fault-code-requires
-fault-code-requires c κs = subst (λ (f : RecordFault). value (recordFaultReport f) < 4294967296) (c .before .fault .given .1) (c .before .before .before .pre)
+fault-code-requires c κs = rw (c .before .fault .given .1) at (c .before .before .before .pre)
 
 enum-told-4 : tie.Need-enum-told-4
 enum-told-4 c = search needs
 
 returns : tie.Need-returns
-returns c = ap (λ (f : RecordFault). coded (recordFaultReport f)) (sym (c .enum-told .given .1))
+returns c = rw (c .enum-told .given .1)
 
 returns-2 : tie.Need-returns-2
-returns-2 c = ap (λ (f : RecordFault). coded (recordFaultReport f)) (sym (c .enum-told2 .given .1))
+returns-2 c = rw (c .enum-told2 .given .1)
 
 returns-3 : tie.Need-returns-3
-returns-3 c = ap (λ (f : RecordFault). coded (recordFaultReport f)) (sym (c .enum-told3 .given .1))
+returns-3 c = rw (c .enum-told3 .given .1)
 
 returns-4 : tie.Need-returns-4
-returns-4 c = c .fault-code .ensures ∙ ap (λ (f : RecordFault). coded (recordFaultReport f)) (sym (c .before .before .fault .given .1))
+returns-4 c = rw (c .before .before .fault .given .1) (c .fault-code .ensures)
 
 returns-5 : tie.Need-returns-5
-returns-5 c = ap (λ (f : RecordFault). coded (recordFaultReport f)) (sym (c .enum-told4 .given .1))
+returns-5 c = rw (c .enum-told4 .given .1)
 
 pub record-fault-code-spec : {M : Type 1} → statement M
 record-fault-code-spec =

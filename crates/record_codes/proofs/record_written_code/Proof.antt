@@ -1,25 +1,19 @@
 -- `record_codes::record_written_code` meets its contract. Assumes nothing.
-use mathlib.Core.Path.{sym, ap, _∙_, subst}
-use Prim.Native.Nat.{_<_}
-use native.Mathlib.Omega.{arith}
 use borrow.Author.Needs.{needs}
-use Rattle.record_writer.specs.declared.RecordWritten.{RecordWritten}
-use Rattle.record_writer.specs.Reports.{writtenReport}
-use Rattle.bounds.specs.Coded.{value, coded}
 use Rattle.record_codes.proofs.record_written_code.Statement.{statement}
 use Rattle.record_codes.proofs.record_written_code.Tie as tie
 
 enum-known-written : tie.Need-enum-known-written
 enum-known-written c = search needs
 
-joined-requires : tie.Need-joined-requires
-joined-requires c κs = (omega arith, subst (λ (w : RecordWritten). value (writtenReport w) < 4294967296) (c .before .written .given .1) (c .before .before .before .pre))
+packed-requires : tie.Need-packed-requires
+packed-requires c κs = rw (c .before .written .given .1) at (c .before .before .before .pre)
 
 enum-known-written-2 : tie.Need-enum-known-written-2
 enum-known-written-2 c = search needs
 
 fault-code-requires : tie.Need-fault-code-requires
-fault-code-requires c κs = subst (λ (w : RecordWritten). value (writtenReport w) < 4294967296) (c .before .written2 .given .1) (c .before .before .before .pre)
+fault-code-requires c κs = rw (c .before .written2 .given .1) at (c .before .before .before .pre)
 
 enum-told : tie.Need-enum-told
 enum-told c = search needs
@@ -34,29 +28,29 @@ enum-told-4 : tie.Need-enum-told-4
 enum-told-4 c = search needs
 
 returns : tie.Need-returns
-returns c = c .joined .ensures ∙ ap (λ (w : RecordWritten). coded (writtenReport w)) (sym (c .before .before .written .given .1))
+returns c = rw (c .before .before .written .given .1) (c .packed .ensures)
 
 returns-2 : tie.Need-returns-2
-returns-2 c = c .fault-code .ensures ∙ ap (λ (w : RecordWritten). coded (writtenReport w)) (sym (c .before .before .written2 .given .1))
+returns-2 c = rw (c .before .before .written2 .given .1) (c .fault-code .ensures)
 
 returns-3 : tie.Need-returns-3
-returns-3 c = ap (λ (w : RecordWritten). coded (writtenReport w)) (sym (c .enum-told .given .1))
+returns-3 c = rw (c .enum-told .given .1)
 
 returns-4 : tie.Need-returns-4
-returns-4 c = ap (λ (w : RecordWritten). coded (writtenReport w)) (sym (c .enum-told2 .given .1))
+returns-4 c = rw (c .enum-told2 .given .1)
 
 returns-5 : tie.Need-returns-5
-returns-5 c = ap (λ (w : RecordWritten). coded (writtenReport w)) (sym (c .enum-told3 .given .1))
+returns-5 c = rw (c .enum-told3 .given .1)
 
 returns-6 : tie.Need-returns-6
-returns-6 c = ap (λ (w : RecordWritten). coded (writtenReport w)) (sym (c .enum-told4 .given .1))
+returns-6 c = rw (c .enum-told4 .given .1)
 
 pub record-written-code-spec : {M : Type 1} → statement M
 record-written-code-spec =
     tie.close
     (tie.spec
     enum-known-written
-    joined-requires
+    packed-requires
     enum-known-written-2
     fault-code-requires
     enum-told

@@ -1,10 +1,5 @@
 -- `record_codes::there_code` meets its contract. Assumes nothing.
-use mathlib.Core.Path.{sym, ap, _∙_, subst}
-use Prim.Native.Nat.{_<_}
 use borrow.Author.Needs.{needs}
-use Rattle.record.specs.declared.bodies.BodyCheck.{BodyCheck}
-use Rattle.record.specs.Reports.{thereReport}
-use Rattle.bounds.specs.Coded.{value, coded}
 use Rattle.record_codes.proofs.there_code.Statement.{statement}
 use Rattle.record_codes.proofs.there_code.Tie as tie
 
@@ -15,7 +10,7 @@ enum-known-there : tie.Need-enum-known-there
 enum-known-there c = search needs
 
 record-fault-code-requires : tie.Need-record-fault-code-requires
-record-fault-code-requires c κs = subst (λ (t : BodyCheck). value (thereReport t) < 4294967296) (c .before .there .given .1) (c .before .before .before .pre)
+record-fault-code-requires c κs = rw (c .before .there .given .1) at (c .before .before .before .pre)
 
 enum-told-2 : tie.Need-enum-told-2
 enum-told-2 c = search needs
@@ -24,16 +19,16 @@ enum-told-3 : tie.Need-enum-told-3
 enum-told-3 c = search needs
 
 returns : tie.Need-returns
-returns c = ap (λ (t : BodyCheck). coded (thereReport t)) (sym (c .enum-told .given .1))
+returns c = rw (c .enum-told .given .1)
 
 returns-2 : tie.Need-returns-2
-returns-2 c = c .record-fault-code .ensures ∙ ap (λ (t : BodyCheck). coded (thereReport t)) (sym (c .before .before .there .given .1))
+returns-2 c = rw (c .before .before .there .given .1) (c .record-fault-code .ensures)
 
 returns-3 : tie.Need-returns-3
-returns-3 c = ap (λ (t : BodyCheck). coded (thereReport t)) (sym (c .enum-told2 .given .1))
+returns-3 c = rw (c .enum-told2 .given .1)
 
 returns-4 : tie.Need-returns-4
-returns-4 c = ap (λ (t : BodyCheck). coded (thereReport t)) (sym (c .enum-told3 .given .1))
+returns-4 c = rw (c .enum-told3 .given .1)
 
 pub there-code-spec : {M : Type 1} → statement M
 there-code-spec =

@@ -1,63 +1,77 @@
 -- `text::put_listing` meets its contract: the first line, the sets' lines and the vector's line, one after the other.
 -- Assumes nothing.
-use mathlib.Core.List.{_++_}
+use mathlib.Core.List.{[], _∷_, _++_}
 use Prim.Native.Nat.{_+_, _≤_}
+use borrow.Author.Needs.{needs}
 use denote.Ref.{now}
 use lib.ListN.{length}
 use Rattle.flat.specs.Lists.{each}
-use Rattle.lines.specs.Lines.{codeLine, entryLine, vectorLine}
-use Rattle.text.specs.Text.{listingText}
+use Rattle.lines.specs.Lines.{line, entryLine}
+use Rattle.text.specs.Text.{codeWord, vectorWord, listingText}
 use Rattle.decimals.specs.Places.{Put}
 use Rattle.decimals.proofs.Puts.{put-then, put-length, front, behind}
 use Rattle.text.proofs.put_listing.Statement.{statement}
 use Rattle.text.proofs.put_listing.Tie as tie
 
--- the lines have room
-room : (c : tie.Start) →
+-- the first line and the sets' lines have room
+room-front : (c : tie.Start) →
     let a = c .args in
-    a .at + length (codeLine (a .k) (a .m) ++ each entryLine (now (a .entries)) ++ vectorLine (now (a .vector))) ≤ length (now (a .out))
+    a .at + length (line codeWord (a .k ∷ a .m ∷ []) ++ each entryLine (now (a .entries))) ≤ length (now (a .out))
 unfolding listingText
-room c = c .pre
+room-front c =
+    let a = c .args in
+    front (line codeWord (a .k ∷ a .m ∷ []) ++ each entryLine (now (a .entries))) (line vectorWord (now (a .vector))) (a .at) (c .pre)
 
-put-code-requires : tie.Need-put-code-requires
-put-code-requires c κs =
-    let s = c .before .before .before .before in
+slice-aggregate-put-line : tie.Need-slice-aggregate-put-line
+slice-aggregate-put-line c = search needs
+
+slice-aggregate-put-line-2 : tie.Need-slice-aggregate-put-line-2
+slice-aggregate-put-line-2 c = search needs
+
+put-line-requires : tie.Need-put-line-requires
+put-line-requires c κs =
+    let s = c .before .before .before .before .before .before in
     let a = s .args in
-    front (codeLine (a .k) (a .m)) (each entryLine (now (a .entries))) (a .at) (front (codeLine (a .k) (a .m) ++ each entryLine (now (a .entries))) (vectorLine (now (a .vector))) (a .at) (room s))
+    front (line codeWord (a .k ∷ a .m ∷ [])) (each entryLine (now (a .entries))) (a .at) (room-front s)
 
 put-entries-requires : tie.Need-put-entries-requires
 put-entries-requires c κs =
     let p = c .before .before .before in
-    let s = p .before .before .before .before .before in
-    let a = s .args in
-    behind (each entryLine (now (a .entries))) (p .put-code .ensures) (front (codeLine (a .k) (a .m) ++ each entryLine (now (a .entries))) (vectorLine (now (a .vector))) (a .at) (room s))
+    let s = p .before .before .before .before .before .before .before in
+    behind (each entryLine (now (s .args .entries))) (p .put-line .ensures) (room-front s)
 
 -- the first line and the sets' lines are put
 both : (c : tie.After-put-entries) →
-    let a = c .before .before .before .before .before .before .before .before .before .args in
-    Put (codeLine (a .k) (a .m) ++ each entryLine (now (a .entries))) (a .at) (now (a .out)) (c .put-entries .last .1 .0) (c .put-entries .result)
-both c = put-then (c .before .before .before .before .put-code .ensures) (c .put-entries .ensures)
+    let a = c .before .before .before .before .before .before .before .before .before .before .before .args in
+    Put (line codeWord (a .k ∷ a .m ∷ []) ++ each entryLine (now (a .entries))) (a .at) (now (a .out)) (c .put-entries .last .1 .0) (c .put-entries .result)
+both c = put-then (c .before .before .before .before .put-line .ensures) (c .put-entries .ensures)
 
-put-vector-requires : tie.Need-put-vector-requires
-put-vector-requires c κs =
-    let p = c .before .before .before in
-    let s = p .before .before .before .before .before .before .before .before .before in
-    let a = s .args in
-    behind (vectorLine (now (a .vector))) (both p) (room s)
+slice-aggregate-put-line-3 : tie.Need-slice-aggregate-put-line-3
+slice-aggregate-put-line-3 c = search needs
 
-whole : (c : tie.After-put-vector) →
-    let a = c .before .before .before .before .before .before .before .before .before .before .before .before .before .args in
-    Put (listingText (a .k) (a .m) (now (a .entries)) (now (a .vector))) (a .at) (now (a .out)) (c .put-vector .last .1 .0) (c .put-vector .result)
+put-line-requires-2 : tie.Need-put-line-requires-2
 unfolding listingText
-whole c = put-then (both (c .before .before .before .before)) (c .put-vector .ensures)
-
-same-length : tie.Need-same-length
-same-length c = put-length (whole (c .before .before))
+put-line-requires-2 c κs =
+    let p = c .before .before .before .before in
+    let s = p .before .before .before .before .before .before .before .before .before .before .before in
+    behind (line vectorWord (now (s .args .vector))) (both p) (s .pre)
 
 returns : tie.Need-returns
-returns c = whole (c .before .before)
+unfolding listingText
+returns c = put-then (both (c .before .before .before .before .before .before .before)) (c .before .before .put-line2 .ensures)
+
+same-length : tie.Need-same-length
+same-length c = put-length (returns c)
 
 pub put-listing-spec : {M : Type 1} → statement M
 put-listing-spec =
     tie.close
-    (tie.spec put-code-requires put-entries-requires put-vector-requires same-length returns)
+    (tie.spec
+    slice-aggregate-put-line
+    slice-aggregate-put-line-2
+    put-line-requires
+    put-entries-requires
+    slice-aggregate-put-line-3
+    put-line-requires-2
+    same-length
+    returns)

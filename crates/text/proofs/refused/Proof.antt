@@ -1,42 +1,53 @@
 -- `text::refused` meets its contract: a line that is longer than the buffer is not put, any other is.
 -- Assumes nothing.
-use mathlib.Core.Path.{_≡_}
-use Prim.Native.Nat.{_+_}
-use native.Mathlib.Omega.{arith}
 use borrow.Author.Needs.{needs}
-use lib.ListN.{length}
 use Rattle.text.specs.Text.{refusedText}
-use Rattle.text.proofs.Lengths.{length-refused}
 use Rattle.text.proofs.Answers.{too-short, long-enough}
 use Rattle.decimals.proofs.Puts.{put-length}
 use Rattle.text.proofs.refused.Statement.{statement}
 use Rattle.text.proofs.refused.Tie as tie
 
-decimal-length-requires : tie.Need-decimal-length-requires
-decimal-length-requires c κs = search needs
+slice-aggregate-line-length : tie.Need-slice-aggregate-line-length
+slice-aggregate-line-length c = search needs
 
-add-line : tie.Need-add-line
-add-line c = search needs
+slice-aggregate-line-length-2 : tie.Need-slice-aggregate-line-length-2
+slice-aggregate-line-length-2 c = search needs
 
--- how long the line is
-long : (c : tie.After-decimal-length) → c .decimal-length .result + 9 ≡ length (refusedText (c .before .before .args .number))
-long c = omega (arith, length-refused (c .before .before .args .number))
+line-length-requires : tie.Need-line-length-requires
+line-length-requires c κs = search needs
 
 returns : tie.Need-returns
-returns c = too-short _ _ _ (long (c .before)) (c .if1 .taken)
+unfolding refusedText
+returns c = too-short _ _ _ (c .before .line-length .ensures .0) (c .if1 .taken)
 
-put-refused-requires : tie.Need-put-refused-requires
-put-refused-requires c κs = omega (arith, long (c .before .before))
+slice-aggregate-put-line : tie.Need-slice-aggregate-put-line
+slice-aggregate-put-line c = search needs
+
+slice-aggregate-put-line-2 : tie.Need-slice-aggregate-put-line-2
+slice-aggregate-put-line-2 c = search needs
+
+put-line-requires : tie.Need-put-line-requires
+put-line-requires c κs = search needs
 
 same-length : tie.Need-same-length
-same-length c = put-length (c .before .before .put-refused .ensures)
+same-length c = put-length (c .before .before .put-line .ensures)
 
 returns-2 : tie.Need-returns-2
+unfolding refusedText
 returns-2 c =
-    let e = c .before .before .before .before in
-    long-enough _ _ _ (long (e .before)) (e .if1 .left) (c .before .before .put-refused .ensures)
+    let e = c .before .before .before .before .before .before in
+    long-enough _ _ _ (e .before .line-length .ensures .0) (e .if1 .left) (c .before .before .put-line .ensures)
 
 pub refused-spec : {M : Type 1} → statement M
 refused-spec =
     tie.close
-    (tie.spec decimal-length-requires add-line returns put-refused-requires same-length returns-2)
+    (tie.spec
+    slice-aggregate-line-length
+    slice-aggregate-line-length-2
+    line-length-requires
+    returns
+    slice-aggregate-put-line
+    slice-aggregate-put-line-2
+    put-line-requires
+    same-length
+    returns-2)

@@ -1,13 +1,8 @@
 -- `bridgecrumb::cards::bridgecrumb_card_write` meets its contract. Assumes nothing.
-use mathlib.Core.Path.{sym, ap, _∙_, subst}
-use Prim.Native.Nat.{_<_}
+use mathlib.Core.Path.{ap, _∙_}
 use borrow.Author.Needs.{needs}
-use denote.Ref.{now}
-use lib.ListN.{length}
-use Rattle.flat.specs.Cards.{code}
-use Rattle.flat.specs.Faults.{Report}
-use Rattle.bounds.specs.Coded.{value, coded}
-use Rattle.bounds.proofs.Values.{card-write-value}
+use Rattle.bounds.specs.Coded.{coded}
+use Rattle.bounds.proofs.Values.{card-write-fits}
 use Rattle.bridgecrumb.proofs.cards.bridgecrumb_card_write.Statement.{statement}
 use Rattle.bridgecrumb.proofs.cards.bridgecrumb_card_write.Tie as tie
 
@@ -15,9 +10,7 @@ write-requires : tie.Need-write-requires
 write-requires c κs = search needs
 
 written-code-requires : tie.Need-written-code-requires
-written-code-requires c κs =
-    let a = c .before .before .before .before .before .before .args in
-    subst (λ (r : Report). value r < 4294967296) (sym (c .before .before .write .ensures .0)) (card-write-value (code (a .k) (a .m) (now (a .columns))) (length (now (a .out))))
+written-code-requires c κs = rw (c .before .before .write .ensures .0) (card-write-fits _ _)
 
 same-length : tie.Need-same-length
 same-length c = search needs

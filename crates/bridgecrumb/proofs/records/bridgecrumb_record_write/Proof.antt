@@ -1,12 +1,8 @@
 -- `bridgecrumb::records::bridgecrumb_record_write` meets its contract. Assumes nothing.
-use mathlib.Core.Path.{sym, ap, _∙_, subst}
-use Prim.Native.Nat.{_<_}
+use mathlib.Core.Path.{ap, _∙_}
 use borrow.Author.Needs.{needs}
-use denote.Ref.{now}
-use lib.ListN.{length}
-use Rattle.flat.specs.Faults.{Report}
-use Rattle.bounds.specs.Coded.{value, coded}
-use Rattle.bounds.proofs.RecordValues.{record-write-value}
+use Rattle.bounds.specs.Coded.{coded}
+use Rattle.bounds.proofs.RecordValues.{record-write-fits}
 use Rattle.bridgecrumb.proofs.records.bridgecrumb_record_write.Statement.{statement}
 use Rattle.bridgecrumb.proofs.records.bridgecrumb_record_write.Tie as tie
 
@@ -14,9 +10,7 @@ write-requires : tie.Need-write-requires
 write-requires c κs = search needs
 
 record-written-code-requires : tie.Need-record-written-code-requires
-record-written-code-requires c κs =
-    let a = c .before .before .before .before .before .before .before .args in
-    subst (λ (r : Report). value r < 4294967296) (sym (c .before .before .write .ensures .0)) (record-write-value (now (a .card)) (a .l) (a .lost) (length (now (a .stripe))) (length (now (a .out))))
+record-written-code-requires c κs = rw (c .before .before .write .ensures .0) (record-write-fits _ _ _ _ _)
 
 same-length : tie.Need-same-length
 same-length c = search needs
