@@ -5,11 +5,9 @@ use mathlib.Core.List.{List}
 use Prim.Native.Nat.{ℕ, _+_, _≤_, _<_}
 use native.Mathlib.Omega.{arith}
 use lib.ListN.{length, getD, take, drop, length-drop, take-append-drop}
-use lib.Seq.{ext-getD, getD-take, getD-drop, length-take-le, take-add, paste}
-use Rattle.flat.specs.Lists.{tabulate}
-use Rattle.flat.proofs.Lists.{length-tabulate, getD-tabulate}
-use Rattle.copies.specs.Put.{put}
-use Rattle.copies.proofs.Putting.{put-paste, put-none, length-put, put-next}
+use lib.Seq.{ext-getD, getD-take, getD-drop, length-take-le, take-add}
+use Rattle.flat.specs.Lists.{tabulate, put}
+use Rattle.flat.proofs.Lists.{length-tabulate, getD-tabulate, put-none, length-put, put-next}
 
 -- the bytes of a slice from a place on, one by one
 pub block-bytes : (s : List ℕ) (at n : ℕ) → at + n ≤ length s → tabulate n (λ t. getD s (at + t) 0) ≡ take n (drop at s)
@@ -18,9 +16,6 @@ block-bytes s at n h =
     ext-getD 0 (tabulate n (λ t. getD s (at + t) 0)) (take n (drop at s)) (length-tabulate n (λ t. getD s (at + t) 0) ∙ sym long)
     (λ t l. let m : t < n = omega (arith, length-tabulate n (λ t. getD s (at + t) 0)) in
     getD-tabulate n (λ t. getD s (at + t) 0) t m ∙ sym (getD-take n (drop at s) t 0 m ∙ getD-drop at s t 0))
-
-pub block-put : (s block : List ℕ) (at n : ℕ) → length block ≡ n → paste s at block n ≡ put s at block
-block-put s block at n e = ap (paste s at block) (sym e) ∙ put-paste s at block
 
 -- the first o bytes are copied
 pub record Run (s₀ new : List ℕ) (at o : ℕ) (s : List ℕ) : Type 0 where

@@ -3,7 +3,7 @@
 ghost use mathlib.Core.Path.{_≡_};
 ghost use Prim.Native.Nat.{_+_, _≤_};
 ghost use lib.ListN.{length, take, drop};
-ghost use Rattle.copies.specs.Put.{put};
+ghost use Rattle.flat.specs.Lists.{put};
 use crate::copy;
 
 // The block that stands in the slice at a place.

@@ -7,9 +7,8 @@ use native.Mathlib.Nat.{add-zero}
 use native.Mathlib.Numerals.{add-one}
 use native.Mathlib.Omega.{arith}
 use lib.ListN.{length}
-use Rattle.flat.specs.Lists.{range, each}
-use Rattle.copies.specs.Put.{put}
-use Rattle.copies.proofs.Putting.{put-none, length-put, put-next}
+use Rattle.flat.specs.Lists.{range, each, put}
+use Rattle.flat.proofs.Lists.{put-none, length-put, put-next}
 
 -- ---- lists one after the other
 

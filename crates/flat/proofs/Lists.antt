@@ -1,19 +1,19 @@
--- Laws of the words that the definitions are written in: tables, padded lists, and numbers in bytes.
+-- Laws of the words that the definitions are written in: tables, padded lists, runs put into a list, and numbers in bytes.
 -- Assumes nothing.
 use mathlib.Core.Path.{_≡_, refl, sym, ap, ap₂, _∙_, subst}
 use mathlib.Core.Logic.{_⊎_, inl, inr}
-use mathlib.Core.List.{List, [], _∷_, _++_, map}
+use mathlib.Core.List.{List, [], _∷_, _++_, map, append-assoc}
 use Prim.Native.Nat.{ℕ, zero, suc, _+_, _-_, _*_, _≤_, _<_}
 use native.Mathlib.Nat.{not-suc-le-zero, add-zero}
 use native.Mathlib.Omega.{arith}
 use native.Mathlib.Numerals.{add-one}
 use borrow.Author.Tests.{lt-ltb, le-ltb}
 use lib.Dec.{ltb}
-use lib.ListN.{length, getD, take, set, replicate, length-append, length-replicate, List·getD-append, List·getD-eq-default}
-use lib.Seq.{take-at, set-at, append-snoc, getD-append-add, ext-getD}
+use lib.ListN.{length, getD, take, drop, set, replicate, length-append, length-drop, length-replicate, List·getD-append, List·getD-eq-default}
+use lib.Seq.{take-at, set-at, append-snoc, getD-append-add, ext-getD, getD-take, getD-drop, length-take-le, drop-append-add, drop-drop, paste, paste-zero}
 use Rattle.gf2.specs.If.{if_then_else_}
 use Rattle.gf2.proofs.Tests.{below-or}
-use Rattle.flat.specs.Lists.{range, tabulate, padded, field}
+use Rattle.flat.specs.Lists.{range, tabulate, padded, put, field}
 
 -- ---- tables
 
@@ -33,6 +33,12 @@ unfolding tabulate
 tabulate-cong zero f g e = refl
 tabulate-cong (suc n) f g e =
     ap₂ _∷_ (e 0 (omega arith)) (tabulate-cong n (λ i. f (suc i)) (λ i. g (suc i)) (λ i h. e (suc i) (omega arith)))
+
+-- a table of zeros
+pub zeros : (n : ℕ) → replicate n 0 ≡ tabulate n (λ i. 0)
+unfolding tabulate
+zeros zero = refl
+zeros (suc n) = ap (λ (xs : List ℕ). 0 ∷ xs) (zeros n)
 
 -- a mapped range is a table
 pub map-range : (f : ℕ → ℕ) (a n : ℕ) → map f (range a n) ≡ tabulate n (λ i. f (a + i))
@@ -109,6 +115,61 @@ fill-end n j f h =
     go : (i : ℕ) → (i < j) ⊎ (j ≤ i) → getD (tabulate j f) i 0 ≡ (if ltb i j then f i else 0)
     go i (inl l) = rw (lt-ltb i j l) (getD-tabulate j f i l)
     go i (inr l) = rw (le-ltb i j l) (List·getD-eq-default (tabulate j f) 0 (rw (length-tabulate j f) l))
+
+-- ---- runs put into a list
+
+pub put-none : (s : List ℕ) (at : ℕ) → put s at [] ≡ s
+unfolding put
+put-none s at = sym (paste-zero s at [])
+
+pub length-put : (s : List ℕ) (at : ℕ) (new : List ℕ) → at + length new ≤ length s → length (put s at new) ≡ length s
+unfolding put
+length-put s at new h =
+    let a = length-append (take at s ++ new) (drop (at + length new) s) in
+    let b = length-append (take at s) new in
+    omega (arith, a, b, length-take-le at s (omega arith), length-drop (at + length new) s)
+
+-- one run, and another right after it
+pub put-next : (s : List ℕ) (at b : ℕ) (x y : List ℕ) → b ≡ at + length x → b ≤ length s → put (put s at x) b y ≡ put s at (x ++ y)
+unfolding put
+put-next s at b x y e h =
+    let front : length (take at s ++ x) ≡ b = omega (arith, length-append (take at s) x, length-take-le at s (omega arith)) in
+    let after : drop (b + length y) (take at s ++ x ++ drop (at + length x) s) ≡ drop (at + length (x ++ y)) s =
+    ap (λ (n : ℕ). drop (n + length y) (take at s ++ x ++ drop (at + length x) s)) (sym front)
+    ∙ drop-append-add (take at s ++ x) (drop (at + length x) s) (length y) ∙ drop-drop (length y) (at + length x) s
+    ∙ ap (λ (n : ℕ). drop n s) (let q : at + length x + length y ≡ at + length (x ++ y) = omega (arith, length-append x y) in q) in
+    ap₂ (λ (p q : List ℕ). p ++ y ++ q) (take-at (take at s ++ x) (drop (at + length x) s) b front) after
+    ∙ ap (λ (p : List ℕ). p ++ drop (at + length (x ++ y)) s) (append-assoc (take at s) x y)
+
+-- the kit's copy of the first n entries
+pub paste-put : (s : List ℕ) (at : ℕ) (new : List ℕ) (n : ℕ) → n ≤ length new → paste s at new n ≡ put s at (take n new)
+unfolding put
+paste-put s at new n h = ap (λ (k : ℕ). take at s ++ take n new ++ drop (at + k) s) (sym (length-take-le n new h))
+
+-- entry by entry
+module _ (s : List ℕ) (at : ℕ) (new : List ℕ) (n : ℕ) (fits : at + n ≤ length s) (long : length new ≡ n) where
+  head : length (take at s ++ new) ≡ at + n
+  head = omega (arith, length-append (take at s) new, length-take-le at s (omega arith))
+
+  pub put-before : (p : ℕ) → p < at → getD (put s at new) p 0 ≡ getD s p 0
+  unfolding put
+  put-before p h =
+      List·getD-append (take at s ++ new) (drop (at + length new) s) 0 p (omega (arith, head))
+      ∙ List·getD-append (take at s) new 0 p (omega (arith, length-take-le at s (omega arith))) ∙ getD-take at s p 0 h
+
+  pub put-new : (t : ℕ) → t < n → getD (put s at new) (at + t) 0 ≡ getD new t 0
+  unfolding put
+  put-new t h =
+      List·getD-append (take at s ++ new) (drop (at + length new) s) 0 (at + t) (omega (arith, head))
+      ∙ ap (λ (x : ℕ). getD (take at s ++ new) (x + t) 0) (sym (length-take-le at s (omega arith))) ∙ getD-append-add (take at s) new t 0
+
+  pub put-after : (p : ℕ) → at + n ≤ p → getD (put s at new) p 0 ≡ getD s p 0
+  unfolding put
+  put-after p h =
+      let e : p ≡ at + length new + (p - (at + length new)) = omega arith in
+      ap (λ (x : ℕ). getD (put s at new) x 0) (let q : p ≡ length (take at s ++ new) + (p - (at + length new)) = omega (arith, head) in q)
+      ∙ getD-append-add (take at s ++ new) (drop (at + length new) s) (p - (at + length new)) 0
+      ∙ getD-drop (at + length new) s (p - (at + length new)) 0 ∙ ap (λ (x : ℕ). getD s x 0) (sym e)
 
 -- ---- numbers in bytes
 

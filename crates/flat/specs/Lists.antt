@@ -74,6 +74,10 @@ member x (y ∷ ys) = eqb x y || member x ys
 unfoldable pub padded : ℕ → List ℕ → List ℕ
 padded n xs = xs ++ replicate (n - length xs) 0
 
+-- the list with a run of entries put at a place, in the place of those that stood there
+unfoldable pub put : List ℕ → ℕ → List ℕ → List ℕ
+put s at new = take at s ++ new ++ drop (at + length new) s
+
 -- each entry is a byte
 abbrev pub Bytes : List ℕ → Type 0
 Bytes xs = (i : ℕ) → getD xs i 0 < 256

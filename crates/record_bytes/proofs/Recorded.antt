@@ -5,10 +5,9 @@ use mathlib.Core.List.{List, _++_}
 use Prim.Native.Nat.{ℕ, _+_, _*_, _≤_}
 use native.Mathlib.Omega.{arith}
 use lib.ListN.{length, length-append}
-use Rattle.flat.specs.Lists.{range, each, bytes}
+use Rattle.flat.specs.Lists.{range, each, bytes, put}
 use Rattle.flat.specs.Records.{mark, entry, stripBody}
-use Rattle.copies.specs.Put.{put}
-use Rattle.copies.proofs.Putting.{put-next}
+use Rattle.flat.proofs.Lists.{put-next}
 use Rattle.contents.specs.Places.{bodyFrom, stripEntryFrom}
 use Rattle.entries.proofs.Lengths.{length-entry, length-entries, bodies-end}
 use Rattle.record_bytes.specs.Layout.{recordFrom}

@@ -24,7 +24,7 @@ pub fn check(file: &[u8]) -> RecordCheck
         return RecordCheck::Bad(RecordFault::Mark);
     }
     let l = contents::number_4(file, 4);
-    if !strips::length_ok(l) {
+    if !strip_blocks::length_ok(l) {
         return RecordCheck::Bad(RecordFault::StripLength);
     }
     if !record_checks::entries_ok(file) {

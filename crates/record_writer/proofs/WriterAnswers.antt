@@ -11,7 +11,7 @@ use borrow.Author.Tests.{not-false, lt-ltb, le-ltb, ltb-false, eq-eqb, ne-eqb}
 use lib.Dec.{eqb, ltb}
 use lib.ListN.{length, drop}
 use Rattle.gf2.proofs.Tests.{true-T, eqb-out}
-use Rattle.flat.specs.Lists.{Bytes}
+use Rattle.flat.specs.Lists.{Bytes, put}
 use Rattle.flat.specs.Cards.{Code, code, codeOf, disks, setOk, columnsIn}
 use Rattle.flat.specs.Strips.{lengthOk}
 use Rattle.flat.specs.Records.{recordLength, recordBytes}
@@ -23,7 +23,6 @@ use Rattle.card.specs.Reports.{faultReport, checkReport}
 use Rattle.card.proofs.Laws.{unless-fault}
 use Rattle.card.proofs.Callers.{GoodCard, good-with, bad-card}
 use Rattle.flat.proofs.Lengths.{length-in}
-use Rattle.copies.specs.Put.{put}
 use Rattle.contents.specs.Places.{stripsAt, bodyFrom}
 use Rattle.record_bytes.specs.Layout.{recordFrom}
 use Rattle.record_bytes.proofs.Recorded.{length-record}

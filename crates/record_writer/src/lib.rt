@@ -10,7 +10,7 @@ ghost use lib.Dec.{eqb};
 ghost use lib.ListN.{length};
 ghost use Rattle.flat.specs.Cards.{code};
 ghost use Rattle.flat.specs.Faults.{unlessRefused, recordWriteReport, recordWriteOutput};
-ghost use Rattle.copies.specs.Put.{put};
+ghost use Rattle.flat.specs.Lists.{put};
 ghost use Rattle.record_bytes.specs.Layout.{recordFrom};
 ghost use Rattle.record_writer.specs.Reports.{writtenReport};
 ghost use Rattle.record_writer.specs.Tests.{written};
@@ -48,7 +48,7 @@ fn decide(k: usize, m: usize, l: usize, lost: u32, size: usize, room: usize) -> 
     ensures { λ r. ⌜ writtenReport r ≡ written (code k m []) l lost size room ⌝ }
 {
     let n = k + m;
-    if !strips::length_ok(l) {
+    if !strip_blocks::length_ok(l) {
         return RecordWritten::StripLength;
     }
     if !gf2::below(lost, n as u32) {

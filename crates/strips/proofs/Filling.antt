@@ -4,23 +4,25 @@ use mathlib.Core.Path.{_≡_, sym, ap, _∙_, subst}
 use mathlib.Core.Logic.{_⊎_, inl, inr, _≢_}
 use mathlib.Core.List.{List}
 use Prim.Native.Nat.{ℕ, _+_, _-_, _*_, _/_, _%_, _^_, _≤_, _<_}
-use native.Mathlib.Nat.{div-add-mod', mod-lt, lt-of-lt-of-le}
+use native.Mathlib.Nat.{div-add-mod', mod-lt, lt-of-lt-of-le, zero-add}
 use native.Mathlib.Omega.{arith}
 use lib.Arith.{digits-lt, digits-div}
 use lib.Dec.{T}
-use lib.ListN.{length, getD}
+use lib.ListN.{length, getD, take}
+use lib.Seq.{getD-take, length-take-le}
 use Rattle.gf2.specs.If.{if_then_else_}
 use Rattle.gf2.specs.Sets.{has, over}
 use Rattle.gf2.proofs.Tests.{below-suc, below-or, if-true, if-false}
 use Rattle.gf2.proofs.Subsets.{power-in, power-out}
 use Rattle.gf2.proofs.Sums.{over-cong}
+use Rattle.flat.specs.Lists.{tabulate, put}
 use Rattle.flat.specs.Strips.{byteOf}
 use Rattle.flat.specs.Repairs.{filled}
 use Rattle.flat.proofs.Lists.{length-tabulate, getD-tabulate}
 use Rattle.flat.proofs.Positions.{places}
-use Rattle.blocks.proofs.Written.{Written}
-use Rattle.strips.proofs.Written.{strip}
-use Rattle.dense.proofs.Patched.{disk-of, Patched, patched-none, patched-same, patched-more, patched-all}
+use Rattle.strip_blocks.proofs.Written.{Written, written-none, written-more}
+use Rattle.strips.proofs.Written.{strip, StripTo}
+use Rattle.strip_dense.proofs.Patched.{disk-of, Patched, patched-none, patched-same, patched-more, patched-all}
 
 -- a strip that is written is filled
 pub strip-filled : (n l set d : ℕ) (s₀ s : List ℕ) → 0 < l
@@ -46,6 +48,29 @@ strip-filled n l set d s₀ s z r =
     old p f (inl a) c = r .before p a
     old p f (inr a) (inl c) = absurd (f (disk-of l d p z a c .0))
     old p f (inr a) (inr c) = r .after p c
+
+-- a strip that is written to its end
+pub strip-all : (n l set d : ℕ) (s₀ : List ℕ) (o : ℕ) (s : List ℕ) → 0 < l → StripTo n l set d s₀ o s → o ≡ l
+    → s ≡ filled n l (λ i. set) (2 ^ d) s₀
+strip-all n l set d s₀ o s z r e = strip-filled n l set d s₀ s z (rw e at r)
+
+-- and one that is put in one go
+pub strip-put : (n l set d : ℕ) (s s′ new : List ℕ) → 0 < l → d * l + l ≤ length s → length new ≡ l
+    → ((t : ℕ) → t < l → getD new t 0 ≡ over n set (byteOf l s t)) → s′ ≡ put s (d * l) new → s′ ≡ filled n l (λ i. set) (2 ^ d) s
+unfolding strip
+strip-put n l set d s s′ new z fits long byte e =
+    e ∙ strip-filled n l set d s (put s (d * l) new) z
+    (written-more s s new (d * l) (d * l) (d * l) l (strip n l set d s) (written-none s (d * l) (strip n l set d s)) (omega arith) (omega arith) (omega arith) fits long
+    (λ t u. let y : d * l + t - d * l ≡ t = omega arith in byte t u ∙ ap (λ (x : ℕ). over n set (byteOf l s x)) (sym y)))
+
+-- out of a block that goes over its end
+pub strip-over : (w n l set d : ℕ) (s s′ block : List ℕ) → 0 < l → d * l + l ≤ length s → l ≤ w
+    → block ≡ tabulate w (λ t. over n set (byteOf l s (0 + t))) → s′ ≡ put s (d * l) (take l block) → s′ ≡ filled n l (λ i. set) (2 ^ d) s
+strip-over w n l set d s s′ block z fits h b e =
+    let long : length block ≡ w = ap length b ∙ length-tabulate w (λ t. over n set (byteOf l s (0 + t))) in
+    strip-put n l set d s s′ (take l block) z fits (length-take-le l block (omega arith))
+    (λ t u. getD-take l block t 0 u ∙ ap (λ (x : List ℕ). getD x t 0) b ∙ getD-tabulate w (λ t. over n set (byteOf l s (0 + t))) t (omega arith)
+    ∙ ap (λ (x : ℕ). over n set (byteOf l s x)) (zero-add t)) e
 
 -- ---- the strips of the targets below d
 

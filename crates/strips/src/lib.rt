@@ -10,19 +10,9 @@ ghost use Prim.Native.Nat.{ℕ, _+_, _*_, _^_, _<_, _≤_};
 ghost use lib.Dec.{T, leb, ltb};
 ghost use lib.ListN.{length, getD};
 ghost use Rattle.gf2.specs.Sets.{has};
-ghost use Rattle.flat.specs.Strips.{lengthOk};
 ghost use Rattle.flat.specs.Repairs.{filled};
-pub use vanishing::all_vanish;
-
-// 1 to 65,536.
-pub fn length_ok(l: usize) -> bool
-    ensures { λ r. ⌜ r ≡ lengthOk l ⌝ }
-{
-    if l < 1 {
-        return false;
-    }
-    l <= 65536
-}
+pub use strip_blocks::length_ok;
+pub use strip_vanishing::all_vanish;
 
 // The strip of disk d becomes the XOR of the strips of the disks below n that are in the set, which d is
 // not. This is for strips of 128 bytes or more.
@@ -34,14 +24,14 @@ fn fill_long(s: &mut [u8], l: usize, n: usize, set: u32, d: usize)
     let at = d * l;
     let mut o = 0;
     while o + 128 <= l {
-        let block = blocks::sum(s, l, n, set, o);
-        blocks::put(s, at + o, block);
+        let block = strip_blocks::sum(s, l, n, set, o);
+        strip_blocks::put(s, at + o, block);
         o += 128;
     }
     if o < l {
         let last = l - 128;
-        let block = blocks::sum(s, l, n, set, last);
-        blocks::put(s, at + last, block);
+        let block = strip_blocks::sum(s, l, n, set, last);
+        strip_blocks::put(s, at + last, block);
     }
 }
 
@@ -51,7 +41,7 @@ fn fill_few(s: &mut [u8], l: usize, n: usize, set: u32, d: usize)
     requires { ⌜ ((i : ℕ) → i < n → T (has set i) → i ≢ d) ⌝ }
     ensures { λ _. ⌜ now (s .exit) ≡ filled n l (λ _. set) (2 ^ d) (now (s .entry)) ⌝ }
 {
-    let members = blocks::members_of(set, n, l);
+    let members = strip_blocks::members_of(set, n, l);
     let at = members.at;
     let count = members.count;
     if count < 1 {
@@ -59,7 +49,7 @@ fn fill_few(s: &mut [u8], l: usize, n: usize, set: u32, d: usize)
     } else if 4 < count {
         fill_long(s, l, n, set, d);
     } else {
-        streams::fill(s, d * l, l, at, count);
+        strip_streams::fill(s, d * l, l, at, count);
     }
 }
 
@@ -72,14 +62,14 @@ fn fill_short(s: &mut [u8], l: usize, n: usize, set: u32, d: usize)
     let at = d * l;
     let mut o = 0;
     while o + 16 <= l {
-        let block = blocks::sum_16(s, l, n, set, o);
-        blocks::put_16(s, at + o, block);
+        let block = strip_blocks::sum_16(s, l, n, set, o);
+        strip_blocks::put_16(s, at + o, block);
         o += 16;
     }
     if o < l {
         let last = l - 16;
-        let block = blocks::sum_16(s, l, n, set, last);
-        blocks::put_16(s, at + last, block);
+        let block = strip_blocks::sum_16(s, l, n, set, last);
+        strip_blocks::put_16(s, at + last, block);
     }
 }
 
@@ -88,8 +78,8 @@ fn fill_over(s: &mut [u8], l: usize, n: usize, set: u32, d: usize)
     requires { ⌜ (1 ≤ l) × (l ≤ 128) × (n ≤ 32) × (n * l + 128 ≤ length (now s) + l) × (d * l + l ≤ length (now s)) ⌝ }
     ensures { λ _. ⌜ now (s .exit) ≡ filled n l (λ _. set) (2 ^ d) (now (s .entry)) ⌝ }
 {
-    let block = blocks::sum(s, l, n, set, 0);
-    blocks::put_first(s, d * l, block, l);
+    let block = strip_blocks::sum(s, l, n, set, 0);
+    strip_blocks::put_first(s, d * l, block, l);
 }
 
 // The same for strips of any length, byte by byte.
@@ -98,10 +88,9 @@ fn fill_bytes(s: &mut [u8], l: usize, n: usize, set: u32, d: usize)
     requires { ⌜ ((i : ℕ) → i < n → T (has set i) → i ≢ d) ⌝ }
     ensures { λ _. ⌜ now (s .exit) ≡ filled n l (λ _. set) (2 ^ d) (now (s .entry)) ⌝ }
 {
-    let at = d * l;
     for t in 0..l {
-        let byte = blocks::sum_1(s, l, n, set, t);
-        s[at + t] = byte;
+        let byte = strip_blocks::sum_1(s, l, n, set, t);
+        s[d * l + t] = byte;
     }
 }
 
@@ -157,8 +146,8 @@ pub fn fill(s: &mut [u8], l: usize, n: usize, disks: usize, targets: u32, sets: 
 {
     if l < 8192 {
         fill_each(s, l, n, disks, targets, sets);
-    } else if dense::is_dense(n, disks, targets, sets) {
-        dense::fill(s, l, n, disks, targets, sets);
+    } else if strip_dense::is_dense(n, disks, targets, sets) {
+        strip_dense::fill(s, l, n, disks, targets, sets);
     } else {
         fill_each(s, l, n, disks, targets, sets);
     }

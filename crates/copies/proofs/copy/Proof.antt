@@ -1,10 +1,9 @@
 -- `copies::copy` meets its contract: a copy is made byte by byte.
 -- Assumes nothing.
-use mathlib.Core.Path.{_≡_, refl, _∙_}
+use mathlib.Core.Path.{_≡_, refl}
 use Prim.Native.Nat.{_-_, _≤_}
 use lib.ListN.{length}
-use Rattle.blocks.proofs.Loops.{Copied, copied-none, copied-more, copied-all}
-use Rattle.copies.proofs.Putting.{put-paste}
+use Rattle.strip_blocks.proofs.Loops.{Copied, copied-none, copied-more, copied-all}
 use borrow.Author.Needs.{needs}
 use Rattle.copies.proofs.copy.Statement.{statement}
 use Rattle.copies.proofs.copy.Tie as tie
@@ -42,7 +41,7 @@ same-length c = search needs
 returns : tie.Need-returns Inv-loop μ-loop
 returns c =
     let e : c .before .loop .t ≡ length (c .before .before .args .new .now) = search needs in
-    copied-all _ _ _ _ _ _ (c .before .loop .inv .2) e ∙ put-paste _ _ _
+    copied-all _ _ _ _ _ (c .before .loop .inv .2) e
 
 pub copy-spec : {M : Type 1} → statement M
 copy-spec =

@@ -6,8 +6,8 @@ use lib.ListN.{length}
 use native.Mathlib.Omega.{arith}
 use borrow.Author.Tests.{not-true, not-false}
 use Rattle.gf2.specs.Sets.{has}
-use Rattle.copies.specs.Put.{put}
-use Rattle.copies.proofs.Putting.{put-none}
+use Rattle.flat.specs.Lists.{put}
+use Rattle.flat.proofs.Lists.{put-none}
 use Rattle.entries.proofs.Lengths.{part-strip, body-there, body-lost, body-next}
 use borrow.Author.Needs.{needs}
 use Rattle.entries.proofs.put_body.Statement.{statement}

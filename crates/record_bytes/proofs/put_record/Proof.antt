@@ -6,9 +6,8 @@ use Prim.Native.Nat.{ℕ, _+_, _*_, _≤_}
 use native.Mathlib.Omega.{arith}
 use denote.Ref.{now}
 use lib.ListN.{length}
-use Rattle.flat.specs.Lists.{range, each}
+use Rattle.flat.specs.Lists.{range, each, put}
 use Rattle.flat.specs.Records.{mark, entry, stripBody}
-use Rattle.copies.specs.Put.{put}
 use Rattle.contents.specs.Places.{stripEntryFrom}
 use Rattle.record_bytes.proofs.Recorded.{sizesOf, after-start, record-put}
 use borrow.Author.Needs.{needs}

@@ -1,7 +1,7 @@
 -- `strips::fill_few` meets its contract, whichever way is taken.
 -- Assumes nothing.
 use native.Mathlib.Omega.{arith}
-use Rattle.strips.proofs.Streamed.{places-apart, streamed-filled}
+use Rattle.strips.proofs.Streamed.{places-inside, places-apart, streamed-filled}
 use borrow.Author.Needs.{needs}
 use Rattle.strips.proofs.fill_few.Statement.{statement}
 use Rattle.strips.proofs.fill_few.Tie as tie
@@ -24,7 +24,7 @@ fill-requires c κs =
     let st = m .before .before in
     let a = st .args in
     let r = m .members-of in
-    (st .pre .0 .3, omega arith, omega arith, places-apart (a .n) (a .l) (a .set) (a .s .now) (r .result .at) (r .result .count) (a .d) (st .pre .0 .2) (st .pre .1) (r .ensures .1 .0))
+    (st .pre .0 .3, omega arith, omega arith, places-inside (a .n) (a .l) (a .set) (a .s .now) (r .result .at) (r .result .count) (r .ensures .1 .0) (st .pre .0 .2), places-apart (a .n) (a .l) (a .set) (a .s .now) (r .result .at) (r .result .count) (r .ensures .1 .0) (a .d) (st .pre .1))
 
 same-length : tie.Need-same-length
 same-length c = search needs

@@ -1,11 +1,6 @@
 -- `strips::fill_over` meets its contract: the strip is the first bytes of the block.
 -- Assumes nothing.
-use mathlib.Core.Path.{sym, subst}
-use mathlib.Core.List.{List}
-use Prim.Native.Nat.{ℕ, _+_, _*_}
-use Rattle.blocks.proofs.Written.{Written}
-use Rattle.strips.proofs.Written.{strip, strip-whole}
-use Rattle.strips.proofs.Filling.{strip-filled}
+use Rattle.strips.proofs.Filling.{strip-over}
 use borrow.Author.Needs.{needs}
 use Rattle.strips.proofs.fill_over.Statement.{statement}
 use Rattle.strips.proofs.fill_over.Tie as tie
@@ -25,12 +20,7 @@ same-length c = search needs
 returns : tie.Need-returns
 returns c =
     let st = c .before .before .before .before .before .before .before in
-    let a = st .args in
-    let block = c .before .before .before .before .sum .result in
-    strip-filled (a .n) (a .l) (a .set) (a .d) (a .s .now) (c .before .before .put-first .last .0) (st .pre .0)
-    (subst (λ (s : List ℕ). Written (a .s .now) s (a .d * a .l) (a .d * a .l + a .l) (strip (a .n) (a .l) (a .set) (a .d) (a .s .now)))
-    (sym (c .before .before .put-first .ensures))
-    (strip-whole (a .n) (a .l) (a .set) (a .d) (a .s .now) block (st .pre .1) (search needs) (c .before .before .before .before .sum .ensures)))
+    strip-over 128 _ _ _ _ _ _ _ (st .pre .0) (search needs) (st .pre .1) (c .before .before .before .before .sum .ensures) (c .before .before .put-first .ensures)
 
 pub fill-over-spec : {M : Type 1} → statement M
 fill-over-spec =

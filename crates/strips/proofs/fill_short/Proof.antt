@@ -1,19 +1,16 @@
 -- `strips::fill_short` meets its contract: the strip is written up to o, the other strips are as at entry.
 -- Assumes nothing.
-use mathlib.Core.Path.{_≡_, refl, sym, ap, _∙_, subst}
-use Prim.Native.Nat.{ℕ, _+_, _-_, _*_, _≤_}
-use native.Mathlib.Omega.{arith}
-use mathlib.Core.List.{List}
-use lib.Seq.{paste}
-use Rattle.blocks.proofs.Written.{Written, written-start}
-use Rattle.strips.proofs.Written.{strip, strip-more}
-use Rattle.strips.proofs.Filling.{strip-filled}
+use mathlib.Core.Path.{_≡_, refl}
+use Prim.Native.Nat.{_+_, _-_, _*_, _≤_}
+use Rattle.strip_blocks.proofs.Written.{written-start}
+use Rattle.strips.proofs.Written.{StripTo, strip-more}
+use Rattle.strips.proofs.Filling.{strip-all}
 use borrow.Author.Needs.{needs}
 use Rattle.strips.proofs.fill_short.Statement.{statement}
 use Rattle.strips.proofs.fill_short.Tie as tie
 
 abbrev Inv-loop : tie.InvT-loop
-Inv-loop s₀ l n set d at o₀ s o = (o ≤ l) × (at ≡ d * l) × Written s₀ s (d * l) (d * l + o) (strip n l set d s₀)
+Inv-loop s₀ l n set d at o₀ s o = (o ≤ l) × (at ≡ d * l) × StripTo n l set d s₀ o s
 
 abbrev μ-loop : tie.MeasureT-loop
 μ-loop s₀ l n set d at o₀ s o = l - o
@@ -44,15 +41,13 @@ loop-less c = search needs
 
 loop-again : tie.Need-loop-again Inv-loop μ-loop
 loop-again c =
-    let lp = c .before .before .before .before .before .before .before .loop in
-    let st = c .before .before .before .before .before .before .before .before .before in
+    let b = c .before .before .before .before in
+    let lp = b .before .before .before .loop in
+    let st = b .before .before .before .before .before in
     let a = st .args in (
       search needs,
       lp .inv .1,
-      subst (λ (s : List ℕ). Written (a .s .now) s (a .d * a .l) (a .d * a .l + (lp .o + 16)) (strip (a .n) (a .l) (a .set) (a .d) (a .s .now)))
-          (sym (c .before .before .put-16 .ensures ∙ ap (λ (at : ℕ). paste (lp .s) (at + lp .o) (c .before .before .before .before .sum-16 .result) 16) (lp .inv .1)))
-          (strip-more (a .n) (a .l) (a .set) (a .d) (a .s .now) (st .pre .1) 16 (lp .s) (c .before .before .before .before .sum-16 .result) (lp .o) (lp .o) (lp .inv .2)
-          (omega arith) (omega arith) (search needs) (search needs) (c .before .before .before .before .sum-16 .ensures)),
+      strip-more (a .n) (a .l) (a .set) (a .d) (a .s .now) (st .pre .1) 16 _ (lp .s) _ _ (lp .o) _ (lp .inv .1) (lp .inv .2) (search needs) (search needs) (search needs) (search needs) (b .sum-16 .ensures) (c .before .before .put-16 .ensures),
     )
 
 sub-last : tie.Need-sub-last Inv-loop μ-loop
@@ -72,17 +67,14 @@ same-length c = search needs
 
 returns : tie.Need-returns Inv-loop μ-loop
 returns c =
-    let lp = c .before .before .before .before .before .before .before .before .loop in
-    let st = c .before .before .before .before .before .before .before .before .before .before in
+    let b = c .before .before .before .before in
+    let lp = b .before .before .before .before .loop in
+    let st = b .before .before .before .before .before .before in
     let a = st .args in
-    let block = c .before .before .before .before .sum-162 .result in
     let e : a .l - 16 + 16 ≡ a .l = search needs in
-    strip-filled (a .n) (a .l) (a .set) (a .d) (a .s .now) (c .before .before .put-162 .last .0) (search needs)
-    (subst (λ (s : List ℕ). Written (a .s .now) s (a .d * a .l) (a .d * a .l + a .l) (strip (a .n) (a .l) (a .set) (a .d) (a .s .now)))
-    (sym (c .before .before .put-162 .ensures ∙ ap (λ (at : ℕ). paste (lp .s) (at + (a .l - 16)) block 16) (lp .inv .1)))
-    (subst (λ (o : ℕ). Written (a .s .now) (paste (lp .s) (a .d * a .l + (a .l - 16)) block 16) (a .d * a .l) (a .d * a .l + o) (strip (a .n) (a .l) (a .set) (a .d) (a .s .now))) e
-    (strip-more (a .n) (a .l) (a .set) (a .d) (a .s .now) (st .pre .1) 16 (lp .s) block (lp .o) (a .l - 16) (lp .inv .2)
-    (search needs) (search needs) (search needs) (search needs) (c .before .before .before .before .sum-162 .ensures))))
+    strip-all (a .n) (a .l) (a .set) (a .d) (a .s .now) (a .l - 16 + 16) _ (search needs)
+    (strip-more (a .n) (a .l) (a .set) (a .d) (a .s .now) (st .pre .1) 16 _ (lp .s) _ _ (lp .o) _ (lp .inv .1) (lp .inv .2) (search needs) (search needs) (search needs) (search needs) (b .sum-162 .ensures) (c .before .before .put-162 .ensures))
+    e
 
 same-length-2 : tie.Need-same-length-2 Inv-loop μ-loop
 same-length-2 c = search needs
@@ -92,8 +84,7 @@ returns-2 c =
     let lp = c .before .before .loop in
     let a = c .before .before .before .before .args in
     let e : lp .o ≡ a .l = search needs in
-    strip-filled (a .n) (a .l) (a .set) (a .d) (a .s .now) (lp .s) (search needs)
-    (subst (λ (o : ℕ). Written (a .s .now) (lp .s) (a .d * a .l) (a .d * a .l + o) (strip (a .n) (a .l) (a .set) (a .d) (a .s .now))) e (lp .inv .2))
+    strip-all (a .n) (a .l) (a .set) (a .d) (a .s .now) (lp .o) (lp .s) (search needs) (lp .inv .2) e
 
 pub fill-short-spec : {M : Type 1} → statement M
 fill-short-spec =

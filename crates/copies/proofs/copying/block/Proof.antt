@@ -3,7 +3,7 @@
 use mathlib.Core.Path.{refl, _∙_}
 use Prim.Native.Nat.{_+_, _-_, _≤_}
 use lib.ListN.{getD}
-use Rattle.blocks.proofs.Loops.{Table, table-none, table-more, table-all}
+use Rattle.strip_blocks.proofs.Loops.{Table, table-none, table-more, table-all}
 use Rattle.copies.proofs.Blocks.{block-bytes}
 use borrow.Author.Needs.{needs}
 use Rattle.copies.proofs.copying.block.Statement.{statement}

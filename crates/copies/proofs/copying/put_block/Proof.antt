@@ -1,9 +1,9 @@
 -- `copies::copying::put_block` meets its contract: a copy is made byte by byte.
 -- Assumes nothing.
-use mathlib.Core.Path.{_≡_, refl, _∙_}
+use mathlib.Core.Path.{_≡_, refl}
 use Prim.Native.Nat.{_-_, _≤_}
-use Rattle.blocks.proofs.Loops.{Copied, copied-none, copied-more, copied-all}
-use Rattle.copies.proofs.Blocks.{block-put}
+use lib.ListN.{length}
+use Rattle.strip_blocks.proofs.Loops.{Copied, copied-none, copied-more, copied-all}
 use borrow.Author.Needs.{needs}
 use Rattle.copies.proofs.copying.put_block.Statement.{statement}
 use Rattle.copies.proofs.copying.put_block.Tie as tie
@@ -40,8 +40,7 @@ same-length c = c .before .loop .inv .1 .long
 
 returns : tie.Need-returns Inv-loop μ-loop
 returns c =
-    let e : c .before .loop .t ≡ 4096 = search needs in
-    copied-all _ _ _ _ _ 4096 (c .before .loop .inv .1) e ∙ block-put _ _ _ 4096 (search needs)
+    let e : c .before .loop .t ≡ length (c .before .before .args .t3) = search needs in copied-all _ _ _ _ _ (c .before .loop .inv .1) e
 
 pub put-block-spec : {M : Type 1} → statement M
 put-block-spec =

@@ -1,0 +1,4 @@
+pub mod Loops
+pub mod Written
+pub mod Summed
+pub mod Placed

@@ -1,0 +1,96 @@
+// The XOR of the strips of a set of disks, block by block: 128 bytes, which stay in the machine's
+// registers while the strips go by; 16 bytes for short strips; and one byte.
+//
+// A stripe is here any slice with the strips of n disks in it, l bytes each.
+ghost use mathlib.Core.Path.{_≡_};
+ghost use Prim.Native.Nat.{_+_, _*_, _<_, _≤_};
+ghost use lib.Dec.{eqb};
+ghost use lib.ListN.{length, getD, take};
+ghost use Rattle.gf2.specs.If.{if_then_else_};
+ghost use Rattle.gf2.specs.Sets.{has, _⊕_, over};
+ghost use Rattle.flat.specs.Lists.{every, tabulate, put};
+ghost use Rattle.flat.specs.Strips.{byteOf};
+
+mod bytes;
+mod lengths;
+mod narrow;
+mod places;
+
+pub use bytes::sum_1;
+pub use lengths::length_ok;
+pub use narrow::is_zero_16;
+pub use narrow::put_16;
+pub use narrow::sum_16;
+pub use places::Members;
+pub use places::members_of;
+pub use places::sum_at;
+
+// The block, XORed with the 128 bytes of the slice from a place on.
+pub(crate) fn added(block: [u8; 128], s: &[u8], at: usize) -> [u8; 128]
+    requires { ⌜ at + 128 ≤ length (now s) ⌝ }
+    ensures { λ r. ⌜ r ≡ tabulate 128 (λ t. getD block t 0 ⊕ getD (now (s .entry)) (at + t) 0) ⌝ }
+{
+    let mut out = block;
+    for t in 0..128 {
+        out[t] = block[t] ^ s[at + t];
+    }
+    out
+}
+
+// The same where disk i is in the set, else the block as it is. Here, and in the two short forms of this,
+// is decided whether a strip goes in.
+fn added_if(block: [u8; 128], s: &[u8], at: usize, set: u32, i: usize) -> [u8; 128]
+    requires { ⌜ (i < 32) × (at + 128 ≤ length (now s)) ⌝ }
+    ensures { λ r. ⌜ r ≡ (if has set i then tabulate 128 (λ t. getD block t 0 ⊕ getD (now (s .entry)) (at + t) 0) else block) ⌝ }
+{
+    if gf2::has(set, i as u32) {
+        added(block, s, at)
+    } else {
+        block
+    }
+}
+
+// Of the XOR of the strips of the disks below n that are in the set: the 128 bytes from o on. They may go
+// over the strips' end, as long as the slice has them.
+pub fn sum(s: &[u8], l: usize, n: usize, set: u32, o: usize) -> [u8; 128]
+    requires { ⌜ (n ≤ 32) × (n * l + o + 128 ≤ length (now s) + l) ⌝ }
+    ensures { λ r. ⌜ r ≡ tabulate 128 (λ t. over n set (byteOf l (now (s .entry)) (o + t))) ⌝ }
+{
+    let mut block = [0u8; 128];
+    for i in 0..n {
+        let next = added_if(block, s, i * l + o, set, i);
+        block = next;
+    }
+    block
+}
+
+// Puts the block into the slice.
+pub fn put(s: &mut [u8], at: usize, block: [u8; 128])
+    requires { ⌜ at + 128 ≤ length (now s) ⌝ }
+    ensures { λ _. ⌜ now (s .exit) ≡ put (now (s .entry)) at block ⌝ }
+{
+    for t in 0..128 {
+        s[at + t] = block[t];
+    }
+}
+
+// Puts the first bytes of the block into the slice.
+pub fn put_first(s: &mut [u8], at: usize, block: [u8; 128], count: usize)
+    requires { ⌜ (count ≤ 128) × (at + count ≤ length (now s)) ⌝ }
+    ensures { λ _. ⌜ now (s .exit) ≡ put (now (s .entry)) at (take count block) ⌝ }
+{
+    for t in 0..count {
+        s[at + t] = block[t];
+    }
+}
+
+// Whether the block has no byte but 0.
+pub fn is_zero(block: [u8; 128]) -> bool
+    ensures { λ r. ⌜ r ≡ every 128 (λ t. eqb (getD block t 0) 0) ⌝ }
+{
+    let mut any = 0u8;
+    for t in 0..128 {
+        any = any | block[t];
+    }
+    any == 0
+}

@@ -1,0 +1,112 @@
+// Whether the XOR of the strips of each of some sets of disks vanishes. It only reads.
+//
+// A stripe has the strips of all disks, l bytes each. Strips go in blocks of 128 bytes, shorter ones in
+// blocks of 16, and those below 16 byte by byte; the last block lies over the end of the one before it. It
+// assumes strips of at most 65,536 bytes, at most 32 disks, whose strips the slice has, and at most 16 sets.
+ghost use mathlib.Core.Path.{_≡_};
+ghost use Prim.Native.Nat.{_*_, _≤_};
+ghost use lib.ListN.{length, take};
+ghost use Rattle.flat.specs.Repairs.{vanishes, allVanish};
+use gf2::Basis;
+
+// Whether the XOR of the strips of the disks below n that are in the set vanishes. This is for strips of
+// 128 bytes or more.
+fn vanishes_long(s: &[u8], l: usize, n: usize, set: u32) -> bool
+    requires { ⌜ (128 ≤ l) × (l ≤ 65536) × (n ≤ 32) × (n * l ≤ length (now s)) ⌝ }
+    ensures { λ r. ⌜ r ≡ vanishes n l (now (s .entry)) set ⌝ }
+{
+    let members = strip_blocks::members_of(set, n, l);
+    let at = members.at;
+    let count = members.count;
+    let mut o = 0;
+    while o + 128 <= l {
+        if !strip_blocks::is_zero(strip_blocks::sum_at(s, &at, count, o)) {
+            return false;
+        }
+        o += 128;
+    }
+    if o < l {
+        return strip_blocks::is_zero(strip_blocks::sum_at(s, &at, count, l - 128));
+    }
+    true
+}
+
+// The same for long strips: four to six as streams.
+fn vanishes_few(s: &[u8], l: usize, n: usize, set: u32) -> bool
+    requires { ⌜ (128 ≤ l) × (l ≤ 65536) × (n ≤ 32) × (n * l ≤ length (now s)) ⌝ }
+    ensures { λ r. ⌜ r ≡ vanishes n l (now (s .entry)) set ⌝ }
+{
+    let members = strip_blocks::members_of(set, n, l);
+    let at = members.at;
+    let count = members.count;
+    if count < 4 {
+        return vanishes_long(s, l, n, set);
+    }
+    if 6 < count {
+        return vanishes_long(s, l, n, set);
+    }
+    strip_streams::vanishes(s, l, at, count)
+}
+
+// The same for strips of 16 bytes or more.
+fn vanishes_short(s: &[u8], l: usize, n: usize, set: u32) -> bool
+    requires { ⌜ (16 ≤ l) × (l ≤ 65536) × (n ≤ 32) × (n * l ≤ length (now s)) ⌝ }
+    ensures { λ r. ⌜ r ≡ vanishes n l (now (s .entry)) set ⌝ }
+{
+    let mut o = 0;
+    while o + 16 <= l {
+        if !strip_blocks::is_zero_16(strip_blocks::sum_16(s, l, n, set, o)) {
+            return false;
+        }
+        o += 16;
+    }
+    if o < l {
+        return strip_blocks::is_zero_16(strip_blocks::sum_16(s, l, n, set, l - 16));
+    }
+    true
+}
+
+// The same for strips of any length, byte by byte.
+fn vanishes_bytes(s: &[u8], l: usize, n: usize, set: u32) -> bool
+    requires { ⌜ (n ≤ 32) × (n * l ≤ length (now s)) ⌝ }
+    ensures { λ r. ⌜ r ≡ vanishes n l (now (s .entry)) set ⌝ }
+{
+    for t in 0..l {
+        if strip_blocks::sum_1(s, l, n, set, t) != 0 {
+            return false;
+        }
+    }
+    true
+}
+
+// The same in the way that suits the strips' length.
+fn strip_vanishes(s: &[u8], l: usize, n: usize, set: u32) -> bool
+    requires { ⌜ (l ≤ 65536) × (n ≤ 32) × (n * l ≤ length (now s)) ⌝ }
+    ensures { λ r. ⌜ r ≡ vanishes n l (now (s .entry)) set ⌝ }
+{
+    if 1024 <= l {
+        return vanishes_few(s, l, n, set);
+    }
+    if 128 <= l {
+        return vanishes_long(s, l, n, set);
+    }
+    if 16 <= l {
+        return vanishes_short(s, l, n, set);
+    }
+    vanishes_bytes(s, l, n, set)
+}
+
+// Whether it vanishes for every row of a basis.
+pub fn all_vanish(s: &[u8], l: usize, n: usize, rows: Basis) -> bool
+    requires { ⌜ (l ≤ 65536) × (n ≤ 32) × (n * l ≤ length (now s)) × (rows .count ≤ 16) ⌝ }
+    ensures { λ r. ⌜ r ≡ allVanish n l (now (s .entry)) (take (rows .count) (rows .rows)) ⌝ }
+{
+    let count = rows.count;
+    let sets = rows.rows;
+    for j in 0..count {
+        if !strip_vanishes(s, l, n, sets[j]) {
+            return false;
+        }
+    }
+    true
+}
