@@ -7,7 +7,8 @@ use lib.ListN.{length}
 use Rattle.flat.specs.Cards.{Code, disks}
 use Rattle.flat.specs.Erasures.{erasures}
 use Rattle.flat.specs.Equations.{equations}
-use Rattle.flat.specs.Faults.{Report, unlessRefused, cardReport, cardWriteReport, encodeReport, verdictReport, erasuresReport, alikeReport, equationsReport, rebuildReport, recordWriteReport, recordReport, bodyReport}
+use Rattle.flat.specs.Faults.{Report, unlessRefused, cardReport, cardWriteReport, encodeReport, verdictReport, erasuresReport, alikeReport, equationsReport, rebuildReport}
+use Rattle.record_format.specs.Faults.{recordWriteReport, recordReport, bodyReport}
 use Rattle.bounds.specs.Coded.{value, coded, codedFault, Fits}
 
 -- The one number tells both: its low 8 bits are the report's number, and the rest is the value.

@@ -1,6 +1,7 @@
 // Cards: the bytes that describe a code, k, m, then m columns of two bytes, low byte first. The check
-// that every call makes of a card, the card reader, one column out of the bytes, and the tests of counts
-// and columns that the card writer shares.
+// that every call makes of a card, the card reader, one column out of the bytes, the tests of counts
+// and columns that the card writer shares, and the test of a strip length, which goes with a card in
+// every call that takes strips.
 //
 // Every byte string is a legal argument of `check` and `read`. What is answered for which input is said
 // in flat/specs/Faults.antt.
@@ -9,6 +10,7 @@ ghost use Prim.Native.Nat.{_+_, _*_, _<_, _≤_};
 ghost use lib.ListN.{length};
 ghost use Rattle.flat.specs.Lists.{padded, field};
 ghost use Rattle.flat.specs.Cards.{countOk, columnOk, firstBad, columnsIn};
+ghost use Rattle.flat.specs.Strips.{lengthOk};
 ghost use Rattle.flat.specs.Faults.{cardReport, cardColumns};
 ghost use Rattle.card.specs.Reports.{checkReport};
 
@@ -42,6 +44,16 @@ pub fn count_ok(n: usize) -> bool
         return false;
     }
     n <= 16
+}
+
+// A strip length: 1 to 65,536.
+pub fn length_ok(l: usize) -> bool
+    ensures { λ r. ⌜ r ≡ lengthOk l ⌝ }
+{
+    if l < 1 {
+        return false;
+    }
+    l <= 65536
 }
 
 // 1 to 2 ^ k - 1.

@@ -47,7 +47,7 @@ pub fn decide(columns: &[u8], k: usize, m: usize, l: usize, lost: u32, stripe: &
     ensures { λ r. ⌜ rebuiltReport r ≡ tested (code k m (columnsIn m (now (columns .entry)))) l lost (now (stripe .entry)) ⌝ }
 {
     let n = k + m;
-    if !strips::length_ok(l) {
+    if !card::length_ok(l) {
         return Rebuilt::StripLength;
     }
     if !gf2::below(lost, n as u32) {

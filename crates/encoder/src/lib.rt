@@ -42,7 +42,7 @@ fn parities(k: usize, m: usize) -> u32
     requires { ⌜ (1 ≤ k) × (k ≤ 16) × (m ≤ 16) ⌝ }
     ensures { λ r. ⌜ r ≡ setOf (k + m) (λ d. not (ltb d k)) ⌝ }
 {
-    repairs::survivors(k + m, gf2::first(k as u32))
+    gf2::survivors(k + m, gf2::first(k as u32))
 }
 
 // The encoder, on the columns of an accepted card and a stripe of its length.
@@ -62,7 +62,7 @@ pub fn encode(card: &[u8], l: usize, stripe: &mut [u8]) -> Encoded
     match card::check(card) {
         CardCheck::Bad(fault) => Encoded::Card(fault),
         CardCheck::Good { k, m } => {
-            if !strips::length_ok(l) {
+            if !card::length_ok(l) {
                 return Encoded::StripLength;
             }
             if stripe.len() != (k + m) * l {

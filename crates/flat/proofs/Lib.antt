@@ -3,16 +3,6 @@ pub mod Reports
 pub mod Lengths
 pub mod Cards
 pub mod RoundTrip
-pub mod Numbers
-pub mod Standing
-pub mod Entries
-pub mod Received
-pub mod Parts
-pub mod Laid
-pub mod Bodies
-pub mod Written
-pub mod Rewritten
-pub mod Recorded
 pub mod Quantifiers
 pub mod Words
 pub mod Rows

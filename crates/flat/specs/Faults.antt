@@ -3,11 +3,11 @@
 -- Assumes nothing.
 use mathlib.Core.Bool.{Bool, not}
 use mathlib.Core.List.{List, [], _∷_, _++_}
-use Prim.Native.Nat.{ℕ, suc, _*_}
+use Prim.Native.Nat.{ℕ, _*_}
 use lib.Dec.{eqb, ltb}
 use lib.ListN.{length, drop}
 use Rattle.gf2.specs.If.{if_then_else_}
-use Rattle.gf2.specs.Sets.{has, size}
+use Rattle.gf2.specs.Sets.{size}
 use Rattle.flat.specs.Lists.{padded}
 use Rattle.flat.specs.Cards.{Code, disks, setOk, countOk, firstBad, cardLength, cardBytes, codeOf}
 use Rattle.flat.specs.Strips.{lengthOk, encoded}
@@ -15,7 +15,6 @@ use Rattle.flat.specs.Erasures.{fatal, erasures, vector}
 use Rattle.flat.specs.Equations.{equations}
 use Rattle.flat.specs.Rebuilding.{agreeing, restored}
 use Rattle.flat.specs.Alike.{alike}
-use Rattle.flat.specs.Records.{recordLength, recordBytes, lengthIn, bodyIn, markOk, entriesOk, cardEntryOk, lostIn, stripEntriesOk}
 
 -- ---- reports
 
@@ -160,57 +159,3 @@ rebuildStripe card L S stripe =
 unfoldable pub alikeReport : List ℕ → List ℕ → Report
 unfolding withCard yesNo alike
 alikeReport first second = withCard first (λ A. withCard second (λ B. accepted (yesNo (alike A B) ∷ [])))
-
--- ---- the record file
-
--- the writer, for a stripe of n bytes and an output of p: T, and T bytes at the output's front
-unfoldable pub recordWriteReport : List ℕ → ℕ → ℕ → ℕ → ℕ → Report
-unfolding withCard lengthOk setOk disks recordLength
-recordWriteReport card L S n p =
-    withCard card (λ C.
-    if not (lengthOk L) then refused 6 [] else
-    if not (setOk C S) then refused 8 [] else
-    if not (eqb n (disks C * L)) then refused 7 [] else
-    if ltb p (recordLength C L S) then refused 16 [] else
-    accepted (recordLength C L S ∷ []))
-
-unfoldable pub recordWriteOutput : List ℕ → ℕ → ℕ → List ℕ → List ℕ → List ℕ
-unfolding unlessRefused recordWriteReport recordBytes recordLength codeOf
-recordWriteOutput card L S stripe output =
-    unlessRefused (recordWriteReport card L S (length stripe) (length output))
-    (recordBytes (codeOf card) L S stripe ++ drop (recordLength (codeOf card) L S) output) output
-
--- what a call answers that takes a record: the record's refusal, else what it answers for the card's code
-unfoldable pub withRecord : List ℕ → (Code → Report) → Report
-unfolding markOk lengthOk lengthIn entriesOk cardEntryOk withCard bodyIn stripEntriesOk recordLength lostIn
-withRecord file answer =
-    if not (markOk file) then refused 13 [] else
-    if not (lengthOk (lengthIn file)) then refused 6 [] else
-    if not (entriesOk file) then refused 14 [] else
-    if not (cardEntryOk file) then refused 14 [] else
-    withCard (bodyIn file 0) (λ C.
-    if not (stripEntriesOk C file) then refused 14 [] else
-    if not (eqb (length file) (recordLength C (lengthIn file) (lostIn C file))) then refused 15 [] else
-    answer C)
-
--- the reader: k, m, L and the lost set, and the columns in 16 places
-unfoldable pub recordReport : List ℕ → Report
-unfolding withRecord lengthIn lostIn
-recordReport file = withRecord file (λ C. accepted (C .k ∷ C .m ∷ lengthIn file ∷ lostIn C file ∷ []))
-
-unfoldable pub recordColumns : List ℕ → List ℕ
-unfolding padded unlessRefused recordReport codeOf bodyIn
-recordColumns file = padded 16 (unlessRefused (recordReport file) (codeOf (bodyIn file 0) .columns) [])
-
--- the call beside the body call, and the part of the file that the body call hands back
-unfoldable pub bodyReport : List ℕ → ℕ → Report
-unfolding withRecord disks has lostIn
-bodyReport file d =
-    withRecord file (λ C.
-    if not (ltb d (disks C)) then refused 9 [] else
-    if has (lostIn C file) d then refused 16 [] else
-    accepted [])
-
-unfoldable pub bodyPart : List ℕ → ℕ → List ℕ
-unfolding unlessRefused bodyReport bodyIn
-bodyPart file d = unlessRefused (bodyReport file d) (bodyIn file (suc d)) []

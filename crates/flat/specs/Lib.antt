@@ -5,11 +5,9 @@ pub mod Erasures
 pub mod Equations
 pub mod Rebuilding
 pub mod Alike
-pub mod Records
 pub mod Faults
 pub mod Spans
 pub mod Repairs
 pub mod Theorems
 pub mod Rebuilt
-pub mod Recorded
 pub mod Demand3

@@ -2,10 +2,11 @@
 -- Assumes nothing.
 use mathlib.Core.Bool.{Bool, true, false, _&&_, _||_}
 use mathlib.Core.List.{List, [], _∷_, _++_}
-use Prim.Native.Nat.{ℕ, zero, suc, _+_, _-_, _*_, _/_, _%_, _^_, _<_}
+use Prim.Native.Nat.{ℕ, zero, suc, _+_, _-_, _*_, _/_, _%_, _<_}
 use lib.Dec.{eqb}
 use lib.ListN.{length, getD, take, drop, replicate}
 use Rattle.gf2.specs.If.{if_then_else_}
+unfoldable pub use Rattle.gf2.specs.Sets.{setOf}
 
 -- does p hold of some number below n?
 unfoldable pub some : ℕ → (ℕ → Bool) → Bool
@@ -21,11 +22,6 @@ every (suc n) p = every n p && p n
 unfoldable pub count : ℕ → (ℕ → Bool) → ℕ
 count zero p = 0
 count (suc n) p = count n p + (if p n then 1 else 0)
-
--- the set of the numbers below n that have p
-unfoldable pub setOf : ℕ → (ℕ → Bool) → ℕ
-setOf zero p = 0
-setOf (suc n) p = setOf n p + (if p n then 2 ^ n else 0)
 
 -- a, a + 1, .., a + n - 1
 unfoldable pub range : ℕ → ℕ → List ℕ

@@ -8,5 +8,6 @@ pub mod Elimination
 pub mod OneRow
 pub mod Sizes
 pub mod Unions
+pub mod Made
 pub mod Loops
 pub mod Theorems

@@ -3,7 +3,7 @@
 -- Assumes nothing.
 use mathlib.Core.Bool.{Bool, not, _&&_}
 use mathlib.Core.List.{List, [], _∷_}
-use Prim.Native.Nat.{ℕ, zero, suc, _-_, _/_, _%_, _^_}
+use Prim.Native.Nat.{ℕ, zero, suc, _+_, _-_, _/_, _%_, _^_}
 use lib.Bits.{bitAnd, bitOr, bitXor}
 use lib.Count.{ones}
 use lib.Dec.{eqb}
@@ -32,6 +32,11 @@ size S = ones S
 -- the disks below n
 unfoldable pub first : ℕ → ℕ
 first n = 2 ^ n - 1
+
+-- the disks below n of which p holds
+unfoldable pub setOf : ℕ → (ℕ → Bool) → ℕ
+setOf zero p = 0
+setOf (suc n) p = setOf n p + (if p n then 2 ^ n else 0)
 
 -- the disks that are in both
 unfoldable pub _∩_ : ℕ → ℕ → ℕ

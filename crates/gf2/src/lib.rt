@@ -3,13 +3,14 @@
 //
 // The contracts cite specs/; what `within` means is said in specs/Theorems.antt.
 ghost use mathlib.Core.Path.{_≡_};
+ghost use mathlib.Core.Bool.{not};
 ghost use mathlib.Core.List.{map};
 ghost use mathlib.Core.Logic.{_≢_};
 ghost use Prim.Native.Nat.{_^_, _≤_, _<_};
 ghost use lib.Dec.{ltb};
 ghost use lib.ListN.{take};
 ghost use Rattle.gf2.specs.If.{if_then_else_};
-ghost use Rattle.gf2.specs.Sets.{has, size, first, _⊆_, _∖_, union};
+ghost use Rattle.gf2.specs.Sets.{has, size, first, setOf, _⊆_, _∖_, union};
 ghost use Rattle.gf2.specs.Span.{select};
 ghost use Rattle.gf2.specs.Within.{lowest, clear, within};
 
@@ -65,6 +66,14 @@ pub fn outside(r: u32, s: u32) -> u32
     ensures { λ t. ⌜ t ≡ r ∖ s ⌝ }
 {
     r ^ (r & s)
+}
+
+// The disks below n that are not lost.
+pub fn survivors(n: usize, lost: u32) -> u32
+    requires { ⌜ (1 ≤ n) × (n ≤ 32) ⌝ }
+    ensures { λ r. ⌜ r ≡ setOf n (λ i. not (has lost i)) ⌝ }
+{
+    outside(first(n as u32), lost)
 }
 
 // The lowest disk of a set that is not empty.

@@ -2,7 +2,7 @@
 -- Assumes nothing.
 use mathlib.Core.List.{[]}
 use Rattle.flat.specs.Faults.{Report, accepted, refused}
-use Rattle.record_checks.specs.Reports.{recordFaultReport}
+use Rattle.record_reader.specs.Reports.{recordFaultReport}
 use Rattle.record.specs.declared.bodies.BodyCheck.{BodyCheck}
 use Rattle.record.specs.declared.bodies.BodyCheck.the-variants as body
 

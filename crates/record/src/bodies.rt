@@ -3,8 +3,9 @@
 ghost use mathlib.Core.Path.{_≡_};
 ghost use Prim.Native.Nat.{suc, _+_, _≤_};
 ghost use lib.ListN.{length};
-ghost use Rattle.flat.specs.Records.{offsetIn, bodyLengthIn};
-ghost use Rattle.flat.specs.Faults.{unlessRefused, bodyReport, bodyPart};
+ghost use Rattle.record_format.specs.Records.{offsetIn, bodyLengthIn};
+ghost use Rattle.flat.specs.Faults.{unlessRefused};
+ghost use Rattle.record_format.specs.Faults.{bodyReport, bodyPart};
 ghost use Rattle.record.specs.Reports.{thereReport};
 use record_reader::RecordCheck;
 use record_reader::RecordFault;
@@ -53,7 +54,7 @@ pub fn body_place(file: &[u8], disk: usize) -> BodyPlace
                     len: 0,
                 };
             }
-            let at = contents::body_at(contents::strips_at(n, m), l, lost, disk);
+            let at = record_contents::body_at(record_contents::strips_at(n, m), l, lost, disk);
             BodyPlace {
                 check: BodyCheck::There,
                 at,

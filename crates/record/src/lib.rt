@@ -3,7 +3,7 @@
 // crates, the writer and the reader.
 //
 // Every byte string, number and buffer is a legal argument. A record's layout is said in
-// flat/specs/Records.antt, and what is answered for which input in flat/specs/Faults.antt.
+// record_format/specs/Records.antt, and what is answered for which input in record_format/specs/Faults.antt.
 mod bodies;
 
 pub use bodies::BodyCheck;

@@ -2,8 +2,8 @@
 //
 // Every function assumes that the report fits, as there.
 ghost use mathlib.Core.Path.{_≡_};
-ghost use Rattle.record_writer.specs.Reports.{writtenReport};
-ghost use Rattle.record_checks.specs.Reports.{recordFaultReport};
+ghost use Rattle.record_writer.specs.Reports.{recordWrittenReport};
+ghost use Rattle.record_reader.specs.Reports.{recordFaultReport};
 ghost use Rattle.record.specs.Reports.{thereReport};
 ghost use Rattle.bounds.specs.Coded.{coded, Fits};
 use codes::fault_code;
@@ -14,8 +14,8 @@ use record::RecordWritten;
 
 // The writer's answer.
 pub fn record_written_code(written: RecordWritten) -> u64
-    requires { ⌜ Fits (writtenReport written) ⌝ }
-    ensures { λ r. ⌜ r ≡ coded (writtenReport written) ⌝ }
+    requires { ⌜ Fits (recordWrittenReport written) ⌝ }
+    ensures { λ r. ⌜ r ≡ coded (recordWrittenReport written) ⌝ }
 {
     match written {
         RecordWritten::Length(len) => packed(0, len),

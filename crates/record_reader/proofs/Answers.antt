@@ -1,25 +1,21 @@
 -- What the reader answers, by what its tests and the card check found.
 -- Assumes nothing.
-use mathlib.Core.Path.{_≡_, refl, sym, _∙_}
-use mathlib.Core.Bool.{Bool, true, false, not, _&&_}
-use mathlib.Core.List.{List, [], _∷_}
-use Prim.Native.Nat.{ℕ, suc, _+_}
+use mathlib.Core.Path.{_≡_, sym, _∙_}
+use mathlib.Core.Bool.{true, false, not}
+use mathlib.Core.List.{List, []}
+use Prim.Native.Nat.{ℕ, _+_}
 use borrow.Author.Tests.{eq-eqb, ne-eqb}
 use lib.Dec.{eqb}
-use lib.ListN.{length, getD, drop}
 use Rattle.gf2.specs.If.{if_then_else_}
-use Rattle.flat.specs.Lists.{every, setOf, same}
-use Rattle.flat.specs.Cards.{Code, code, columnsIn, disks}
+use Rattle.flat.specs.Cards.{Code, code, disks}
 use Rattle.flat.specs.Strips.{lengthOk}
-use Rattle.flat.specs.Records.{entryCount, bodyAt, recordLength, stripEntry, lengthIn, entryCountIn, entryIn, bodyIn, markOk, entriesOk, cardEntryOk, lostIn, stripEntriesOk}
-use Rattle.flat.specs.Faults.{Report, accepted, refused, cardReport, withCard, withRecord, recordReport}
+use Rattle.flat.specs.Faults.{Report, refused, cardReport, withCard}
+use Rattle.record_format.specs.Records.{entryCount, recordLength, lengthIn, entryCountIn, bodyIn, markOk, entriesOk, cardEntryOk}
+use Rattle.record_format.specs.Faults.{stripsReport, withRecord, readReport, recordReport}
 use Rattle.card.specs.declared.CardFault.{CardFault}
 use Rattle.card.specs.declared.CardCheck.the-variants as card
-use Rattle.card.specs.Reports.{faultReport}
-use Rattle.card.specs.Reports as of-card
+use Rattle.card.specs.Reports.{faultReport, checkReport}
 use Rattle.card.proofs.Callers.{GoodCard, good-with, bad-card}
-use Rattle.contents.specs.Places.{stripsAt, bodyFrom, stripEntryFrom}
-use Rattle.record_checks.specs.Tests.{stripsReport}
 
 -- ---- the tests before the card's
 
@@ -47,24 +43,7 @@ module _ (file : List ℕ) where
 
 -- what is answered for the card's code
 abbrev answer : List ℕ → Code → Report
-answer file C =
-    if not (stripEntriesOk C file) then refused 14 [] else
-    if not (eqb (length file) (recordLength C (lengthIn file) (lostIn C file))) then refused 15 [] else
-    accepted (C .k ∷ C .m ∷ lengthIn file ∷ lostIn C file ∷ [])
-
--- two tests with one refusal
-both : (a b : Bool) (r rest : Report) → (if not (a && b) then r else rest) ≡ (if not a then r else if not b then r else rest)
-both true b r rest = refl
-both false b r rest = refl
-
-strips-code : (file : List ℕ) (k m : ℕ) (columns : List ℕ)
-    → answer file (code k m columns) ≡ (if not (eqb (entryCountIn file) (k + m + 1)) then refused 14 [] else stripsReport file k m (lengthIn file))
-unfolding stripsReport stripEntriesOk entryCount disks lostIn recordLength stripEntry stripEntryFrom bodyAt bodyFrom stripsAt
-strips-code file k m columns =
-    let n = k + m in
-    let L = lengthIn file in
-    let S = setOf n (λ i. eqb (getD (entryIn file (suc i)) 0 0) 2) in
-    both (eqb (entryCountIn file) (n + 1)) (every n (λ i. same (entryIn file (suc i)) (stripEntryFrom (stripsAt n m) L S i))) (refused 14 []) _
+answer file C = if not (eqb (entryCountIn file) (entryCount (disks C))) then refused 14 [] else stripsReport C file (readReport file C)
 
 -- the tests that the code has passed when it comes to the card
 pub record Listed (file : List ℕ) : Type 0 where
@@ -78,15 +57,19 @@ module _ (file : List ℕ) (p : Listed file) where
   unfolding recordReport withRecord
   carded = simp (p .marked, p .sized, p .listed, p .named)
 
-  pub bad-body : (f : CardFault) → of-card.checkReport (card.Bad f) ≡ cardReport (bodyIn file 0) → faultReport f ≡ recordReport file
+  pub bad-body : (f : CardFault) → checkReport (card.Bad f) ≡ cardReport (bodyIn file 0) → faultReport f ≡ recordReport file
   bad-body f e = sym (carded ∙ bad-card (bodyIn file 0) f (answer file) e)
 
   module _ (k m : ℕ) (g : GoodCard (bodyIn file 0) k m) where
-    counted : recordReport file ≡ (if not (eqb (entryCountIn file) (k + m + 1)) then refused 14 [] else stripsReport file k m (lengthIn file))
-    counted = carded ∙ good-with (bodyIn file 0) k m (answer file) g ∙ strips-code file k m (columnsIn m (drop 2 (bodyIn file 0)))
+    abbrev C : Code
+    C = code k m []
+
+    counted : recordReport file ≡ (if not (eqb (entryCountIn file) (k + m + 1)) then refused 14 [] else stripsReport C file (readReport file C))
+    unfolding entryCount stripsReport readReport recordLength disks
+    counted = carded ∙ good-with (bodyIn file 0) k m (answer file) g
 
     pub bad-count : (entryCountIn file ≡ k + m + 1 → ⊥) → refused 14 [] ≡ recordReport file
     bad-count f = sym (counted ∙ simp (ne-eqb _ _ f))
 
-    pub good-count : entryCountIn file ≡ k + m + 1 → stripsReport file k m (lengthIn file) ≡ recordReport file
+    pub good-count : entryCountIn file ≡ k + m + 1 → stripsReport (code k m []) file (readReport file (code k m [])) ≡ recordReport file
     good-count e = sym (counted ∙ simp (eq-eqb _ _ e))

@@ -7,19 +7,18 @@ use Prim.Native.Nat.{ℕ, _+_, _-_, _*_, _≤_}
 use native.Mathlib.Omega.{arith}
 use lib.ListN.{length, take, drop, replicate}
 use Rattle.flat.specs.Lists.{padded}
-use Rattle.flat.specs.Cards.{Code, codeOf, disks, cardLength}
-use Rattle.flat.specs.Records.{entryCount, bodiesAt, bodyAt, recordLength, offsetIn, bodyLengthIn, bodyIn}
-use Rattle.flat.specs.Faults.{Report, accepted, unlessRefused, cardReport, cardColumns, withRecord, recordReport, recordColumns}
+use Rattle.flat.specs.Cards.{Code, codeOf, cardLength}
+use Rattle.record_format.specs.Records.{entryCount, bodiesAt, stripsAt, bodyAt, offsetIn, bodyLengthIn, bodyIn}
+use Rattle.flat.specs.Faults.{Report, accepted, unlessRefused, cardReport, cardColumns}
+use Rattle.record_format.specs.Faults.{withRecord, recordReport, recordColumns}
 use Rattle.flat.proofs.Reports.{unless-accepted, unless-refused}
-use Rattle.flat.proofs.Cards.{accepted-card, count-in}
 use Rattle.flat.proofs.Lengths.{length-in}
-use Rattle.flat.proofs.Received.{Received, received, with-refused-record}
+use Rattle.record_format.proofs.Received.{Received, received, with-refused-record}
 use Rattle.card.specs.declared.CardFault.the-variants as card
 use Rattle.card.proofs.Laws.{unless-fault}
-use Rattle.contents.specs.Places.{stripsAt}
-use Rattle.record_checks.specs.declared.RecordFault.{RecordFault}
-use Rattle.record_checks.specs.declared.RecordFault.the-variants as fault
-use Rattle.record_checks.specs.Reports.{recordFaultReport}
+use Rattle.record_reader.specs.declared.RecordFault.{RecordFault}
+use Rattle.record_reader.specs.declared.RecordFault.the-variants as fault
+use Rattle.record_reader.specs.Reports.{recordFaultReport}
 
 -- ---- a bad record
 
@@ -57,28 +56,21 @@ pub record GoodRecord (file : List ℕ) (k m L S : ℕ) : Type 0 where
   pub m-in : (1 ≤ m) × (m ≤ 16)
   pub short : L ≤ 65536
   -- contents and card do not lie past the end
-  pub front : stripsAt (k + m) m ≤ length file
+  pub front : stripsAt (k + m) (cardLength m) ≤ length file
   pub found : recordReport file ≡ accepted (k ∷ m ∷ L ∷ S ∷ [])
   pub known : Received file k m L S
 
 pub good : (file : List ℕ) (k m L S : ℕ) → accepted (k ∷ m ∷ L ∷ S ∷ []) ≡ recordReport file → GoodRecord file k m L S
-unfolding stripsAt bodiesAt cardLength recordLength bodyAt entryCount disks
+unfolding bodyAt
 good file k m L S e =
     let r = received file k m L S (sym e) in
-    let sound = accepted-card (bodyIn file 0) k m (r .card-ok) .sound in
-    record {
-      k-in = count-in k (sound .k-ok);
-      m-in = count-in m (sound .m-ok);
-      short = length-in L (r .length-ok) .1;
-      front = omega (arith, r .size, r .is-k, r .is-m);
-      found = sym e;
-      known = r;
-    }
+    record { k-in = r .k-in; m-in = r .m-in; short = length-in L (r .length-ok) .1; front = omega (arith, r .size); found = sym e; known = r }
 
 module _ (file : List ℕ) (k m L S : ℕ) (g : GoodRecord file k m L S) where
   -- the card, as the code lends it
-  pub card-lent : (start : ℕ) → start ≡ stripsAt (k + m) m → take (start - (20 + 10 * (k + m))) (drop (20 + 10 * (k + m)) file) ≡ bodyIn file 0
-  unfolding bodyIn stripsAt bodiesAt cardLength
+  pub card-lent : (start : ℕ) → start ≡ stripsAt (k + m) (cardLength m)
+      → take (start - (20 + 10 * (k + m))) (drop (20 + 10 * (k + m)) file) ≡ bodyIn file 0
+  unfolding bodyIn stripsAt bodiesAt entryCount cardLength
   card-lent start e =
       let r = g .known in
       let at : 20 + 10 * (k + m) ≡ offsetIn file 0 = omega (arith, r .card-at) in

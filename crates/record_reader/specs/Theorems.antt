@@ -2,12 +2,12 @@
 -- The proofs are those of proofs/Theorems.antt.
 -- Assumes nothing.
 use mathlib.Core.Path.{_≡_}
-use Rattle.record_checks.specs.declared.RecordFault.{RecordFault}
-use Rattle.record_checks.specs.declared.RecordCheck.{RecordCheck}
-use Rattle.record_checks.specs.Reports.{recordFaultReport, checkReport}
+use Rattle.record_reader.specs.declared.RecordFault.{RecordFault}
+use Rattle.record_reader.specs.declared.RecordCheck.{RecordCheck}
+use Rattle.record_reader.specs.Reports.{recordFaultReport, recordCheckReport}
 
 abbrev pub FaultInjective : Type 0
 FaultInjective = (a b : RecordFault) → recordFaultReport a ≡ recordFaultReport b → a ≡ b
 
 abbrev pub CheckInjective : Type 0
-CheckInjective = (a b : RecordCheck) → checkReport a ≡ checkReport b → a ≡ b
+CheckInjective = (a b : RecordCheck) → recordCheckReport a ≡ recordCheckReport b → a ≡ b

@@ -1,3 +1,5 @@
-pub mod Asked
+pub mod Runs
+pub mod Lent
+pub mod Recorded
 pub mod Theorems
 pub mod WriterAnswers

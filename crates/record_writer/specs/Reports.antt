@@ -6,10 +6,10 @@ use Rattle.card.specs.Reports.{faultReport}
 use Rattle.record_writer.specs.declared.RecordWritten.{RecordWritten}
 use Rattle.record_writer.specs.declared.RecordWritten.the-variants as written
 
-abbrev pub writtenReport : RecordWritten → Report
-writtenReport (written.Length t) = accepted (t ∷ [])
-writtenReport (written.Card f) = faultReport f
-writtenReport written.StripLength = refused 6 []
-writtenReport written.OutsideSet = refused 8 []
-writtenReport written.StripeLength = refused 7 []
-writtenReport written.Output = refused 16 []
+abbrev pub recordWrittenReport : RecordWritten → Report
+recordWrittenReport (written.Length t) = accepted (t ∷ [])
+recordWrittenReport (written.Card f) = faultReport f
+recordWrittenReport written.StripLength = refused 6 []
+recordWrittenReport written.OutsideSet = refused 8 []
+recordWrittenReport written.StripeLength = refused 7 []
+recordWrittenReport written.Output = refused 16 []

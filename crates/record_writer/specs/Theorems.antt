@@ -3,7 +3,7 @@
 -- Assumes nothing.
 use mathlib.Core.Path.{_≡_}
 use Rattle.record_writer.specs.declared.RecordWritten.{RecordWritten}
-use Rattle.record_writer.specs.Reports.{writtenReport}
+use Rattle.record_writer.specs.Reports.{recordWrittenReport}
 
 abbrev pub WrittenInjective : Type 0
-WrittenInjective = (a b : RecordWritten) → writtenReport a ≡ writtenReport b → a ≡ b
+WrittenInjective = (a b : RecordWritten) → recordWrittenReport a ≡ recordWrittenReport b → a ≡ b

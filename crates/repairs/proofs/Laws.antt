@@ -1,18 +1,15 @@
 -- Laws for the proofs of the code: the survivors as a set, the search for a row that holds a disk, and the table of equations.
 -- Assumes nothing.
-use mathlib.Core.Path.{_≡_, refl, sym, ap, ap₂, _∙_, subst}
+use mathlib.Core.Path.{_≡_, refl, ap, ap₂, _∙_}
 use mathlib.Core.Bool.{Bool, true, false, not, _&&_}
 use mathlib.Core.List.{List}
 use Prim.Native.Nat.{ℕ, _+_, _^_, _≤_, _<_}
 use native.Mathlib.Numerals.{add-one}
-use lib.Dec.{T, ltb}
+use lib.Dec.{ltb}
 use lib.ListN.{length, getD}
 use Rattle.gf2.specs.If.{if_then_else_}
-use Rattle.gf2.specs.Sets.{has, first, _⊕_, _∖_}
+use Rattle.gf2.specs.Sets.{has, _⊕_, _∖_}
 use Rattle.gf2.specs.Within.{within}
-use Rattle.gf2.proofs.Tests.{T-ext, not-in, not-out, ltb-in, ltb-out}
-use Rattle.gf2.proofs.Subsets.{same-disks, ∖-in, ∖-out}
-use Rattle.gf2.proofs.Unions.{first-has}
 use Rattle.gf2.proofs.Loops.{coming, coming-cons, coming-none}
 use Rattle.flat.specs.Lists.{setOf, padded, tabulate}
 use Rattle.flat.specs.Cards.{Code, code, disks}
@@ -20,18 +17,8 @@ use Rattle.flat.specs.Erasures.{survivors}
 use Rattle.flat.specs.Spans.{checks}
 use Rattle.flat.specs.Repairs.{holder, equationAmong}
 use Rattle.flat.proofs.Lists.{tabulate-cong, fill-end}
-use Rattle.flat.proofs.Quantifiers.{set-in, set-out}
 
 -- ---- the survivors
-
-pub rest-set : (n lost : ℕ) → first n ∖ lost ≡ setOf n (λ i. not (has lost i))
-rest-set n lost =
-    same-disks (first n ∖ lost) (setOf n (λ i. not (has lost i)))
-    (λ i. T-ext
-    (λ t. let p = ∖-out (first n) lost i t in
-    set-in n (λ j. not (has lost j)) i (ltb-out i n (subst T (first-has n i) (p .0))) (not-in (has lost i) (p .1)))
-    (λ t. let p = set-out n (λ j. not (has lost j)) i t in
-    ∖-in (first n) lost i (subst T (sym (first-has n i)) (ltb-in (p .0))) (not-out (has lost i) (p .1))))
 
 pub survivors-set : (k m : ℕ) (columns : List ℕ) (lost : ℕ) → setOf (k + m) (λ i. not (has lost i)) ≡ survivors (code k m columns) lost
 unfolding survivors disks

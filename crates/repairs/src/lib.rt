@@ -4,7 +4,7 @@
 // What these are is said in flat/specs: Erasures, Spans and Repairs, with the theorems of Theorems and
 // Rebuilt. The columns are exactly their 2m bytes, and those of an accepted card.
 ghost use mathlib.Core.Path.{_≡_};
-ghost use mathlib.Core.Bool.{not, _&&_};
+ghost use mathlib.Core.Bool.{_&&_};
 ghost use Prim.Native.Nat.{ℕ, _+_, _*_, _^_, _<_, _≤_};
 ghost use lib.Dec.{ltb};
 ghost use lib.ListN.{length, take};
@@ -17,14 +17,6 @@ ghost use Rattle.flat.specs.Erasures.{survivors};
 ghost use Rattle.flat.specs.Spans.{checks, undetermined};
 ghost use Rattle.flat.specs.Repairs.{holder, equationAmong};
 use gf2::Basis;
-
-// The disks below n that are not lost.
-pub fn survivors(n: usize, lost: u32) -> u32
-    requires { ⌜ (1 ≤ n) × (n ≤ 32) ⌝ }
-    ensures { λ r. ⌜ r ≡ setOf n (λ i. not (has lost i)) ⌝ }
-{
-    gf2::outside(gf2::first(n as u32), lost)
-}
 
 // The disks that the survivors leave undetermined: those that a row left inside the lost set holds.
 pub fn undetermined(columns: &[u8], k: usize, m: usize, lost: u32) -> u32
@@ -40,7 +32,7 @@ pub fn consistency(columns: &[u8], k: usize, m: usize, lost: u32) -> Basis
     requires { ⌜ ((j : ℕ) → j < m → field (2 * j) 2 (now columns) < 2 ^ k) ⌝ }
     ensures { λ r. ⌜ (r .count ≤ m) × (take (r .count) (r .rows) ≡ within (survivors (code k m (columnsIn m (now (columns .entry)))) lost) (checks (code k m (columnsIn m (now (columns .entry)))))) ⌝ }
 {
-    gf2::within(bases::checks(columns, k, m), survivors(k + m, lost))
+    gf2::within(bases::checks(columns, k, m), gf2::survivors(k + m, lost))
 }
 
 // The first row that holds disk d, and the empty set where there is none.
@@ -89,7 +81,7 @@ pub fn equations(columns: &[u8], k: usize, m: usize, lost: u32) -> [u32; 32]
 {
     let n = k + m;
     let checks = bases::checks(columns, k, m);
-    let left = survivors(n, lost);
+    let left = gf2::survivors(n, lost);
     let mut out = [0u32; 32];
     for d in 0..n {
         out[d] = equation_if_lost(checks, left, lost, d);

@@ -12,12 +12,10 @@ ghost use Rattle.flat.specs.Lists.{every, tabulate, put};
 ghost use Rattle.flat.specs.Strips.{byteOf};
 
 mod bytes;
-mod lengths;
 mod narrow;
 mod places;
 
 pub use bytes::sum_1;
-pub use lengths::length_ok;
 pub use narrow::is_zero_16;
 pub use narrow::put_16;
 pub use narrow::sum_16;

@@ -11,7 +11,6 @@ ghost use lib.Dec.{T, leb, ltb};
 ghost use lib.ListN.{length, getD};
 ghost use Rattle.gf2.specs.Sets.{has};
 ghost use Rattle.flat.specs.Repairs.{filled};
-pub use strip_blocks::length_ok;
 pub use strip_vanishing::all_vanish;
 
 // The strip of disk d becomes the XOR of the strips of the disks below n that are in the set, which d is

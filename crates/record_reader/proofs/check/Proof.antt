@@ -9,14 +9,13 @@ use borrow.Author.Tests.{not-true, not-false}
 use borrow.Author.Needs.{needs}
 use denote.Ref.{now}
 use lib.ListN.{length}
-use Rattle.flat.specs.Records.{bodyIn, lengthIn, entryCountIn, markOk, entriesOk}
+use Rattle.record_format.specs.Records.{bodyIn, lengthIn, entryCountIn, markOk, entriesOk}
 use Rattle.flat.specs.Strips.{lengthOk}
 use Rattle.flat.specs.Faults.{cardReport}
 use Rattle.card.specs.Reports.{checkReport}
 use Rattle.card.proofs.Callers.{GoodCard, good}
 use Rattle.flat.proofs.Lengths.{length-in}
-use Rattle.record_checks.specs.Tests.{stripsReport}
-use Rattle.record_checks.proofs.Heads.{ten-bytes, entries-in, card-in, card-part, length-at, entries-at}
+use Rattle.record_reader.proofs.Heads.{ten-bytes, entries-in, card-in, card-part, length-at, entries-at}
 use Rattle.record_reader.proofs.Answers.{Listed, bad-mark, bad-length, bad-entries, bad-card-entry, bad-body, bad-count, good-count}
 use Rattle.record_reader.proofs.check.Statement.{statement}
 use Rattle.record_reader.proofs.check.Tie as tie
@@ -161,7 +160,7 @@ add-if5-2 c = let g = known c in omega (arith, g .k-in, g .m-in)
 returns-5 : tie.Need-returns-5
 returns-5 c =
     let k = c .before .before .before .before in
-    bad-count _ (passed (listing k)) _ _ (known (c .before)) (λ q. c .if5 .taken (sym (many k) ∙ q))
+    bad-count _ (passed (listing k)) _ _ (known (c .before)) (λ q. c .if5 .taken (omega (arith, many k)))
 
 check-strips-requires : tie.Need-check-strips-requires
 check-strips-requires c κs =
@@ -172,6 +171,7 @@ check-strips-requires c κs =
       g .m-in .1,
       short (listing k .before .before .before .before),
       omega (arith, c .if5 .left, many k, entries-in _ (passed (listing k) .listed)),
+      sym (strip-length (listing k .before .before .before .before .before .before)),
     )
 
 returns-6 : tie.Need-returns-6
@@ -183,10 +183,7 @@ returns-7 : tie.Need-returns-7
 returns-7 c =
     let e = c .before in
     let k = e .before .before .before .before in
-    let one = first (listing k) in
-    c .check-strips .ensures
-    ∙ ap (stripsReport (file one) _ _) (sym (strip-length (listing k .before .before .before .before .before .before)))
-    ∙ good-count _ (passed (listing k)) _ _ (known (e .before)) (many k ∙ e .if5 .left)
+    c .check-strips .ensures ∙ good-count _ (passed (listing k)) _ _ (known (e .before)) (omega (arith, many k, e .if5 .left))
 
 pub check-spec : {M : Type 1} → statement M
 check-spec =

@@ -6,9 +6,10 @@ use Prim.Native.Nat.{ℕ, _+_, _^_, _≤_}
 use native.Mathlib.Omega.{arith}
 use borrow.Author.Tests.{not-true, not-false}
 use lib.Dec.{ltb}
+use Rattle.flat.specs.Cards.{cardLength}
 use Rattle.flat.specs.Strips.{lengthOk}
 use Rattle.flat.proofs.Lengths.{length-in, stripe-small}
-use Rattle.contents.specs.Places.{stripsAt, bodyFrom}
+use Rattle.record_format.specs.Records.{stripsAt, bodyAt}
 use Rattle.record_writer.proofs.WriterAnswers.{written-length, written-set, written-stripe, written-short, written-good}
 use borrow.Author.Needs.{needs}
 use Rattle.record_writer.proofs.decide.Statement.{statement}
@@ -61,10 +62,10 @@ body-at-requires c κs = (omega (arith, c .strips-at .ensures .1), length-in _ (
 -- where the bodies end
 end : (c : tie.After-body-at) →
     let a = start (c .before .before .before) .args in
-    c .body-at .result ≡ bodyFrom (stripsAt (a .k + a .m) (a .m)) (a .l) (a .lost) (a .k + a .m)
+    c .body-at .result ≡ bodyAt (stripsAt (a .k + a .m) (cardLength (a .m))) (a .l) (a .lost) (a .k + a .m)
 end c =
     let a = start (c .before .before .before) .args in
-    c .body-at .ensures ∙ ap (λ (s : ℕ). bodyFrom s (a .l) (a .lost) (a .k + a .m)) (c .before .strips-at .ensures .0)
+    c .body-at .ensures ∙ ap (λ (s : ℕ). bodyAt s (a .l) (a .lost) (a .k + a .m)) (c .before .strips-at .ensures .0)
 
 returns-4 : tie.Need-returns-4
 returns-4 c =

@@ -1,14 +1,12 @@
 -- `record_writer::write` meets its contract.
 -- Assumes nothing.
 use mathlib.Core.Path.{_≡_, sym, ap, _∙_}
-use native.Mathlib.Omega.{arith}
 use denote.Ref.{now}
 use lib.ListN.{length}
-use Rattle.flat.specs.Lists.{Bytes}
-use Rattle.flat.specs.Faults.{recordWriteReport}
+use Rattle.record_format.specs.Faults.{recordWriteReport}
 use Rattle.card.specs.Reports.{checkReport}
 use Rattle.card.proofs.Callers.{GoodCard, good}
-use Rattle.record_writer.specs.Reports.{writtenReport}
+use Rattle.record_writer.specs.Reports.{recordWrittenReport}
 use Rattle.record_writer.proofs.WriterAnswers.{good-report, good-output, bad-report, bad-output}
 use borrow.Author.Needs.{needs}
 use Rattle.record_writer.proofs.write.Statement.{statement}
@@ -30,10 +28,6 @@ start c = c .before .before .before .before .before .before .before
 known : (c : tie.After-known-told2) → GoodCard (now (start c .args .card)) (c .before .k .given .0 .0) (c .before .k .given .0 .1 .0)
 known c = good _ _ _ (ap checkReport (sym (c .before .k .given .1)) ∙ c .before .before .before .check .ensures)
 
--- what the slice's type says
-card-bytes : (c : tie.After-known-told2) → Bytes (now (start c .args .card))
-card-bytes c i = omega (arith, c .before .before .before .before .before .before .shared-slice-known .given i)
-
 write-good-requires : tie.Need-write-good-requires
 write-good-requires c κs = let g = known (c .before) in (g .k-in .0, g .k-in .1, g .m-in .1, g .size)
 
@@ -52,9 +46,9 @@ returns-2 c =
     let s = d .before .before in
     let a = start s .args in
     let v = d .write-good in
-    let e : writtenReport (v .result) ≡ recordWriteReport (now (a .card)) (a .l) (a .lost) (length (now (a .stripe))) (length (now (a .out))) =
+    let e : recordWrittenReport (v .result) ≡ recordWriteReport (now (a .card)) (a .l) (a .lost) (length (now (a .stripe))) (length (now (a .out))) =
     v .ensures .0 ∙ sym (good-report _ _ _ _ _ _ _ (known s)) in
-    (e, v .ensures .1 ∙ good-output _ _ _ _ _ _ _ _ (card-bytes s) (known s) e)
+    (e, v .ensures .1 ∙ good-output _ _ _ _ _ _ _ (known s) _ e)
 
 pub write-spec : {M : Type 1} → statement M
 write-spec =

@@ -1,15 +1,16 @@
 -- `record_writer::write_good` meets its contract: what is refused leaves the output as it was, and what is accepted is put.
 -- Assumes nothing.
-use mathlib.Core.Path.{sym, ap, _∙_}
-use Prim.Native.Nat.{ℕ, _+_}
+use mathlib.Core.Path.{sym, _∙_}
+use mathlib.Core.List.{[]}
 use native.Mathlib.Omega.{arith}
 use denote.Ref.{now}
 use lib.ListN.{length}
 use Rattle.flat.proofs.Reports.{unless-zero, unless-other}
-use Rattle.contents.specs.Places.{bodyFrom}
-use Rattle.record_writer.specs.Reports.{writtenReport}
-use Rattle.record_writer.proofs.Asked.{strips-start}
-use Rattle.record_writer.proofs.WriterAnswers.{Passed, zero-passed}
+use Rattle.flat.specs.Cards.{code, disks}
+use Rattle.flat.proofs.Lengths.{length-in}
+use Rattle.record_format.proofs.Written.{Recordable}
+use Rattle.record_writer.specs.Reports.{recordWrittenReport}
+use Rattle.record_writer.proofs.WriterAnswers.{zero-passed, room-asked}
 use borrow.Author.Needs.{needs}
 use Rattle.record_writer.proofs.write_good.Statement.{statement}
 use Rattle.record_writer.proofs.write_good.Tie as tie
@@ -26,20 +27,20 @@ start c = c .before .before .before .before .before .before
 
 known : (c : tie.Then1) →
     let a = start c .args in
-    Passed (a .k) (a .m) (a .l) (a .lost) (length (now (a .stripe))) (length (now (a .out)))
+    Recordable (code (a .k) (a .m) []) (a .l) (a .lost) (length (now (a .stripe))) (length (now (a .out)))
 known c =
-    zero-passed _ _ _ _ _ _ (writtenReport (c .before .before .decide .result)) (c .before .before .decide .ensures)
+    zero-passed _ _ _ _ _ (recordWrittenReport (c .before .before .decide .result)) (c .before .before .decide .ensures)
     (sym (c .before .accepts .ensures) ∙ c .if1 .taken)
 
 add-put-record : tie.Need-add-put-record
 add-put-record c = search needs
 
 put-record-requires : tie.Need-put-record-requires
+unfolding disks
 put-record-requires c κs =
     let p = known (c .before) in
     let a = start (c .before) .args in
-    let e = strips-start (now (a .card)) (a .k + a .m) (a .m) (start (c .before) .pre .3) in
-    (omega arith, p .length .1, omega arith, omega (arith, p .size), omega (arith, p .room, ap (λ (s : ℕ). bodyFrom s (a .l) (a .lost) (a .k + a .m)) e))
+    (omega arith, length-in _ (p .length-ok) .1, omega arith, omega (arith, p .stripe-size), omega (arith, p .room, room-asked (now (a .card)) (a .k) (a .m) (a .l) (a .lost) (start (c .before) .pre .3)))
 
 same-length : tie.Need-same-length
 same-length c = search needs
@@ -49,13 +50,13 @@ returns c =
     let d = c .before .before .before .before in (
       d .before .before .decide .ensures,
       c .before .before .put-record .ensures
-          ∙ unless-zero (writtenReport (d .before .before .decide .result)) _ _ (sym (d .before .accepts .ensures) ∙ d .if1 .taken),
+          ∙ unless-zero (recordWrittenReport (d .before .before .decide .result)) _ _ (sym (d .before .accepts .ensures) ∙ d .if1 .taken),
     )
 
 returns-2 : tie.Need-returns-2
 returns-2 c = (
   c .before .before .decide .ensures,
-  unless-other (writtenReport (c .before .before .decide .result)) _ _ (sym (c .before .accepts .ensures) ∙ c .if1 .left),
+  unless-other (recordWrittenReport (c .before .before .decide .result)) _ _ (sym (c .before .accepts .ensures) ∙ c .if1 .left),
 )
 
 pub write-good-spec : {M : Type 1} → statement M

@@ -5,7 +5,7 @@ use mathlib.Core.List.{[], _∷_}
 use Prim.Native.Nat.{ℕ}
 use borrow.Author.Needs.{needs}
 use denote.Ref.{now}
-use Rattle.flat.specs.Faults.{bodyReport}
+use Rattle.record_format.specs.Faults.{bodyReport}
 use Rattle.bounds.specs.Coded.{coded}
 use Rattle.bounds.proofs.RecordValues.{body-fits}
 use Rattle.bridgecrumb.proofs.Arrays.{written, kept}

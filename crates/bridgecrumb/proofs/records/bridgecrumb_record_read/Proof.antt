@@ -4,8 +4,9 @@ use mathlib.Core.Path.{_≡_, sym, ap, _∙_}
 use mathlib.Core.List.{[], _∷_}
 use borrow.Author.Needs.{needs}
 use denote.Ref.{now}
-use Rattle.flat.specs.Faults.{accepted, recordReport}
-use Rattle.record_checks.specs.Reports.{recordFaultReport, checkReport}
+use Rattle.flat.specs.Faults.{accepted}
+use Rattle.record_format.specs.Faults.{recordReport}
+use Rattle.record_reader.specs.Reports.{recordFaultReport, recordCheckReport}
 use Rattle.record_reader.proofs.Callers.{unless-bad}
 use Rattle.bounds.specs.Coded.{coded}
 use Rattle.bounds.proofs.RecordValues.{record-fits}
@@ -27,10 +28,10 @@ enum-known-check-2 c = search needs
 
 -- the report, by the check's case
 good : (c : tie.After-check) → accepted (c .check .given .0 .0 ∷ c .check .given .0 .1 .0 ∷ c .check .given .0 .1 .1 .0 ∷ c .check .given .0 .1 .1 .1 .0 ∷ []) ≡ recordReport (now (c .before .before .before .before .before .args .file))
-good c = ap checkReport (sym (c .check .given .1)) ∙ c .before .before .before .read .ensures .0
+good c = ap recordCheckReport (sym (c .check .given .1)) ∙ c .before .before .before .read .ensures .0
 
 bad : (c : tie.After-check2) → recordFaultReport (c .check2 .given .0 .0) ≡ recordReport (now (c .before .before .before .before .before .args .file))
-bad c = ap checkReport (sym (c .check2 .given .1)) ∙ c .before .before .before .read .ensures .0
+bad c = ap recordCheckReport (sym (c .check2 .given .1)) ∙ c .before .before .before .read .ensures .0
 
 record-fault-code-requires : tie.Need-record-fault-code-requires
 record-fault-code-requires c κs = rw (bad (c .before)) (record-fits _)

@@ -6,7 +6,7 @@ use Prim.Native.Nat.{ℕ}
 use native.Mathlib.Omega.{arith}
 use borrow.Author.Needs.{needs}
 use denote.Ref.{now}
-use Rattle.record_checks.specs.Reports.{checkReport}
+use Rattle.record_reader.specs.Reports.{recordCheckReport}
 use Rattle.record_reader.proofs.Callers.{GoodRecord, good}
 use Rattle.record.proofs.Places.{no-disk, lost-disk, there, nowhere, bad-place}
 use Rattle.record.proofs.bodies.body_place.Statement.{statement}
@@ -42,7 +42,7 @@ abbrev diskAt : tie.After-known-told2 → ℕ
 diskAt c = c .before .before .before .before .before .args .disk
 
 known : (c : tie.After-known-told2) → GoodRecord (fileAt c) (kAt c) (mAt c) (lAt c) (lostAt c)
-known c = good _ _ _ _ _ (ap checkReport (sym (c .before .k .given .1)) ∙ c .before .before .before .check .ensures)
+known c = good _ _ _ _ _ (ap recordCheckReport (sym (c .before .k .given .1)) ∙ c .before .before .before .check .ensures)
 
 add-n : tie.Need-add-n
 add-n c = let g = known c in omega (arith, g .k-in, g .m-in)
@@ -75,7 +75,7 @@ body-at-requires c κs =
 
 returns-3 : tie.Need-returns-3
 returns-3 c =
-    let b = bad-place _ _ (c .before .fault .given .0 .0) (ap checkReport (sym (c .before .fault .given .1)) ∙ c .before .before .before .check .ensures) in
+    let b = bad-place _ _ (c .before .fault .given .0 .0) (ap recordCheckReport (sym (c .before .fault .given .1)) ∙ c .before .before .before .check .ensures) in
     (b .0, (b .1, omega arith))
 
 returns-4 : tie.Need-returns-4

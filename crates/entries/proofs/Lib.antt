@@ -1,4 +1,0 @@
-pub mod Compared
-pub mod LostSet
-pub mod Runs
-pub mod Lengths

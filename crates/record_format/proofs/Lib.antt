@@ -1,0 +1,12 @@
+pub mod Numbers
+pub mod Standing
+pub mod Entries
+pub mod Places
+pub mod Tests
+pub mod Received
+pub mod Parts
+pub mod Laid
+pub mod Bodies
+pub mod Written
+pub mod Rewritten
+pub mod Theorems

@@ -1,0 +1,100 @@
+-- Numbers in bytes, lists compared, and how many numbers below a bound have a property.
+-- Assumes nothing.
+use mathlib.Core.Path.{_≡_, refl, sym, ap, ap₂, _∙_, subst}
+use mathlib.Core.Bool.{Bool, true, false}
+use mathlib.Core.List.{List, [], _∷_}
+use mathlib.Core.Logic.{_⊎_, inl, inr, ⊎-elim}
+use Prim.Native.Nat.{ℕ, zero, suc, _+_, _*_, _/_, _%_, _^_, _≤_, _<_}
+use native.Mathlib.Nat.{le-refl, pow-suc}
+use native.Mathlib.Omega.{arith}
+use lib.Dec.{T, eqb, eqb-refl}
+use lib.ListN.{length, getD, take, drop, length-take, List·getD-eq-default}
+use lib.Seq.{getD-take, getD-drop}
+use Rattle.gf2.specs.If.{if_then_else_}
+use Rattle.gf2.proofs.Tests.{and-in, and-out, eqb-out, below-suc, below-or, if-true, if-false}
+use Rattle.flat.specs.Lists.{Bytes, count, same, bytes, number}
+
+-- ---- numbers in bytes
+
+pub length-bytes : (n v : ℕ) → length (bytes n v) ≡ n
+unfolding bytes
+length-bytes zero v = refl
+length-bytes (suc n) v = ap suc (length-bytes n (v / 256))
+
+-- a number that fits comes back out of its bytes
+pub number-bytes : (n v : ℕ) → v < 256 ^ n → number (bytes n v) ≡ v
+unfolding bytes number
+number-bytes zero v h = omega arith
+number-bytes (suc n) v h =
+    let l : v < 256 ^ n * 256 = rw (pow-suc 256 n) at h in
+    let r : number (bytes n (v / 256)) ≡ v / 256 = number-bytes n (v / 256) (omega arith) in
+    omega arith
+
+-- bytes come back out of the number that they stand for
+pub bytes-number : (n : ℕ) (xs : List ℕ) → Bytes xs → length xs ≡ n → bytes n (number xs) ≡ xs
+unfolding bytes number
+bytes-number zero [] b e = refl
+bytes-number zero (x ∷ xs) b e = absurd (omega arith)
+bytes-number (suc n) [] b e = absurd (omega arith)
+bytes-number (suc n) (x ∷ xs) b e =
+    let l : x < 256 = b 0 in
+    let low : (x + 256 * number xs) % 256 ≡ x = omega arith in
+    let rest : (x + 256 * number xs) / 256 ≡ number xs = omega arith in
+    ap₂ _∷_ low (ap (bytes n) rest ∙ bytes-number n xs (λ i. b (suc i)) (omega arith))
+
+-- a part of a list of bytes
+pub bytes-part : (at n : ℕ) (xs : List ℕ) → Bytes xs → Bytes (take n (drop at xs))
+bytes-part at n xs b i = go (below-or i n)
+  where
+    go : (i < n) ⊎ (n ≤ i) → getD (take n (drop at xs)) i 0 < 256
+    go (inl l) = subst (λ (x : ℕ). x < 256) (sym (getD-take n (drop at xs) i 0 l ∙ getD-drop at xs i 0)) (b (at + i))
+    go (inr l) =
+        subst (λ (x : ℕ). x < 256) (sym (List·getD-eq-default (take n (drop at xs)) 0 (omega (arith, length-take n (drop at xs))))) (omega arith)
+
+-- ---- lists compared
+
+pub same-in : (xs : List ℕ) → T (same xs xs)
+unfolding same
+same-in [] = tt
+same-in (x ∷ xs) = and-in (eqb x x) (same xs xs) (eqb-refl x) (same-in xs)
+
+pub same-out : (xs ys : List ℕ) → T (same xs ys) → xs ≡ ys
+unfolding same
+same-out [] [] t = refl
+same-out [] (y ∷ ys) t = absurd t
+same-out (x ∷ xs) [] t = absurd t
+same-out (x ∷ xs) (y ∷ ys) t =
+    let p = and-out (eqb x y) (same xs ys) t in ap₂ _∷_ (eqb-out x y (p .0)) (same-out xs ys (p .1))
+
+-- ---- how many have a property
+
+pub count-le : (n : ℕ) (p : ℕ → Bool) → count n p ≤ n
+unfolding count
+count-le zero p = omega arith
+count-le (suc n) p = go (p n) (count-le n p)
+  where
+    go : (b : Bool) → count n p ≤ n → count n p + (if b then 1 else 0) ≤ suc n
+    go true h = omega arith
+    go false h = omega arith
+
+-- the next number is one more where it has the property, and no more where not
+pub count-more : (i : ℕ) (p : ℕ → Bool) → T (p i) → count (suc i) p ≡ suc (count i p)
+unfolding count
+count-more i p t =
+    let w : _≡_ {A = ℕ} (if p i then 1 else 0) 1 = if-true (p i) 1 0 t in omega arith
+
+pub count-skip : (i : ℕ) (p : ℕ → Bool) → (T (p i) → ⊥) → count (suc i) p ≡ count i p
+unfolding count
+count-skip i p f =
+    let w : _≡_ {A = ℕ} (if p i then 1 else 0) 0 = if-false (p i) 1 0 f in omega arith
+
+-- a larger bound has as many at least
+pub count-grows : (p : ℕ → Bool) (i n : ℕ) → i ≤ n → count i p ≤ count n p
+unfolding count
+count-grows p i zero h = let e : i ≡ 0 = omega arith in rw e (le-refl 0)
+count-grows p i (suc n) h =
+    ⊎-elim (λ l. let q = count-grows p i n (omega arith) in omega arith) (λ e. rw e (le-refl (count (suc n) p))) (below-suc i (suc n) (omega arith))
+
+-- one below the bound that has the property is one more
+pub count-below : (n d : ℕ) (p : ℕ → Bool) → d < n → T (p d) → suc (count d p) ≤ count n p
+count-below n d p l t = omega (arith, count-more d p t, count-grows p (suc d) n l)
