@@ -19,7 +19,7 @@ use Rattle.flat.specs.Erasures.{fatal, erasures}
 use Rattle.flat.specs.Equations.{equations}
 use Rattle.flat.specs.Rebuilding.{agreeing}
 use Rattle.flat.specs.Alike.{alike}
-use Rattle.flat.specs.Faults.{Report, accepted, refused, yesNo, unlessRefused, codeReport, cardReport, withCard, cardWriteReport, alikeReport, encodeReport, verdictReport, listReport, erasuresReport, equationsReport, survivorsReport, rebuildReport}
+use Rattle.flat.specs.Faults.{Report, accepted, refused, yesNo, unlessRefused, codeReport, cardReport, withCard, cardWriteReport, alikeReport, encodeReport, verdictReport, listReport, erasuresReport, equationsReport, survivorsReport, rebuildReport, encodeTests, verdictTests, equationsTests, stripeTests, disksReport, rebuildTests}
 use Rattle.flat.proofs.Cards.{accepted-card, card-accepted, count-in}
 use Rattle.bounds.specs.Coded.{Fits}
 use Rattle.bounds.proofs.ListLengths.{erasures-few, equations-few}
@@ -79,9 +79,9 @@ with-fits card answer h = pick (eqb (cardReport card .number) 0) _ _ (λ e. h (f
 -- ---- the encoder, and answers of yes or no
 
 pub encode-fits : (card : List ℕ) (L n : ℕ) → Fits (encodeReport card L n)
-unfolding encodeReport
+unfolding encodeReport encodeTests
 encode-fits card L n =
-    with-fits card (λ C. if not (lengthOk L) then refused 6 [] else if not (eqb n (disks C * L)) then refused 7 [] else accepted [])
+    with-fits card (λ C. encodeTests C L n)
     (λ _. test (lengthOk L) 6 _ (omega arith) (λ _. test (eqb n (disks (codeOf card) * L)) 7 _ (omega arith) (λ _. plain 0 (omega arith))))
 
 yes-no : (b : Bool) → Fits (accepted (yesNo b ∷ []))
@@ -90,9 +90,9 @@ yes-no true = named 0 1 [] (omega arith) (omega arith)
 yes-no false = named 0 0 [] (omega arith) (omega arith)
 
 pub verdict-fits : (card : List ℕ) (S : ℕ) → Fits (verdictReport card S)
-unfolding verdictReport
+unfolding verdictReport verdictTests
 verdict-fits card S =
-    with-fits card (λ C. if not (setOk C S) then refused 8 [] else accepted (yesNo (fatal C S) ∷ []))
+    with-fits card (λ C. verdictTests C S)
     (λ _. test (setOk (codeOf card) S) 8 _ (omega arith) (λ _. yes-no (fatal (codeOf card) S)))
 
 pub alike-fits : (first second : List ℕ) → Fits (alikeReport first second)
@@ -116,10 +116,10 @@ erasures-fits card n =
     with-fits card (λ C. listReport (erasures C) n) (λ h. list-fits (erasures C) n (C .k) (h .0) (erasures-few C))
 
 pub equations-fits : (card : List ℕ) (d n : ℕ) → Fits (equationsReport card d n)
-unfolding equationsReport
+unfolding equationsReport equationsTests
 equations-fits card d n =
     let C = codeOf card in
-    with-fits card (λ C. if not (ltb d (disks C)) then refused 9 [] else listReport (equations C d) n)
+    with-fits card (λ C. equationsTests C d n)
     (λ h. test (ltb d (disks C)) 9 _ (omega arith)
     (λ e. list-fits (equations C d) n (C .m) (h .1) (equations-few C d (ltb-true d (disks C) e))))
 
@@ -131,11 +131,10 @@ survivors-fits S [] h = plain 12 (omega arith)
 survivors-fits S (c ∷ cs) h = named 0 (size S) [] (omega arith) h
 
 pub rebuild-fits : (card : List ℕ) (L S : ℕ) (stripe : List ℕ) → Fits (rebuildReport card L S stripe)
-unfolding rebuildReport setOk disks
+unfolding rebuildReport rebuildTests stripeTests disksReport setOk disks
 rebuild-fits card L S stripe =
     let C = codeOf card in
-    with-fits card
-    (λ C. if not (lengthOk L) then refused 6 [] else if not (setOk C S) then refused 8 [] else if not (eqb (length stripe) (disks C * L)) then refused 7 [] else if fatal C S then refused 11 [] else survivorsReport S (agreeing C L S stripe))
+    with-fits card (λ C. rebuildTests C L S stripe)
     (λ h. test (lengthOk L) 6 _ (omega arith)
     (λ _. test (setOk C S) 8 _ (omega arith)
     (λ e. test (eqb (length stripe) (disks C * L)) 7 _ (omega arith)

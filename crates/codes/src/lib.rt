@@ -13,7 +13,7 @@ ghost use Rattle.likeness.specs.Reports.{alikeReport};
 ghost use Rattle.erasures.specs.Reports.{listedReport};
 ghost use Rattle.equations.specs.Reports.{toldReport};
 ghost use Rattle.encoder.specs.Reports.{encodedReport};
-ghost use Rattle.decision.specs.Reports.{rebuiltReport};
+ghost use Rattle.rebuilder.specs.Reports.{rebuiltReport};
 ghost use Rattle.bounds.specs.Coded.{coded, Fits};
 use card::CardFault;
 use card_writer::CardWritten;

@@ -10,17 +10,13 @@ use lib.ListN.{length, drop}
 use Rattle.gf2.specs.If.{if_then_else_}
 use Rattle.flat.specs.Cards.{Code, code, codeOf, columnsIn, disks}
 use Rattle.flat.specs.Strips.{lengthOk, encoded}
-use Rattle.flat.specs.Faults.{Report, accepted, refused, cardReport, encodeReport, encodeStripe}
+use Rattle.flat.specs.Faults.{accepted, refused, cardReport, encodeTests, encodeReport, encodeStripe}
 use Rattle.flat.proofs.Reports.{unless-accepted, unless-refused}
 use Rattle.card.specs.declared.CardFault.{CardFault}
 use Rattle.card.specs.declared.CardCheck.the-variants.{Bad}
 use Rattle.card.specs.Reports.{faultReport, checkReport}
 use Rattle.card.proofs.Laws.{unless-fault}
 use Rattle.card.proofs.Callers.{GoodCard, good-with, bad-card}
-
--- the answer on a code
-abbrev answer : ℕ → ℕ → Code → Report
-answer l n C = if not (lengthOk l) then refused 6 [] else if not (eqb n (disks C * l)) then refused 7 [] else accepted []
 
 -- a refused call leaves the stripe
 pub stripe-kept : (card : List ℕ) (l n : ℕ) (vs stripe : List ℕ) → refused (suc n) vs ≡ encodeReport card l (length stripe) → stripe ≡ encodeStripe card l stripe
@@ -30,7 +26,7 @@ stripe-kept card l n vs stripe e = sym (unless-refused (encodeReport card l (len
 module _ (card : List ℕ) (l : ℕ) (f : CardFault) (bad : checkReport (Bad f) ≡ cardReport card) where
   pub bad-report : (n : ℕ) → faultReport f ≡ encodeReport card l n
   unfolding encodeReport
-  bad-report n = sym (bad-card card f (answer l n) bad)
+  bad-report n = sym (bad-card card f (λ C. encodeTests C l n) bad)
 
   pub bad-stripe : (stripe : List ℕ) → stripe ≡ encodeStripe card l stripe
   unfolding encodeStripe
@@ -40,9 +36,9 @@ module _ (card : List ℕ) (l k m n : ℕ) (g : GoodCard card k m) where
   -- by the two tests
   tests : (a b : Bool) → lengthOk l ≡ a → eqb n ((k + m) * l) ≡ b
       → encodeReport card l n ≡ (if not a then refused 6 [] else if not b then refused 7 [] else accepted [])
-  unfolding encodeReport disks
+  unfolding encodeReport encodeTests disks
   tests a b p q =
-      good-with card k m (answer l n) g
+      good-with card k m (λ C. encodeTests C l n) g
       ∙ ap₂ (λ (x y : Bool). if not x then refused 6 [] else if not y then refused 7 [] else accepted []) p q
 
   pub long-report : lengthOk l ≡ false → refused 6 [] ≡ encodeReport card l n

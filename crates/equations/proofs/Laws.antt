@@ -6,12 +6,11 @@ use mathlib.Core.List.{List, []}
 use Prim.Native.Nat.{ℕ, _+_, _≤_, _<_}
 use native.Mathlib.Omega.{arith}
 use borrow.Author.Tests.{lt-ltb, le-ltb}
-use lib.Dec.{ltb}
 use lib.ListN.{length, take, drop}
 use Rattle.gf2.specs.If.{if_then_else_}
 use Rattle.flat.specs.Cards.{Code, code, codeOf, columnsIn, disks}
 use Rattle.flat.specs.Equations.{equations}
-use Rattle.flat.specs.Faults.{Report, refused, unlessRefused, cardReport, listReport, listSlice, equationsReport, equationsSlice}
+use Rattle.flat.specs.Faults.{Report, refused, unlessRefused, cardReport, listReport, listSlice, equationsTests, equationsReport, equationsSlice}
 use Rattle.flat.specs.Spans.{checks}
 use Rattle.flat.proofs.Reports.{unless-refused}
 use Rattle.words.specs.Listed.{Listable}
@@ -28,14 +27,10 @@ unfolding disks
 checks-listable k m count bs out hk hm e f =
     listable m count (checks (code k m bs)) out e f (k + m) hm (omega arith) (omega arith) (checks-systematic (code k m bs))
 
--- the answer on a code
-abbrev answer : ℕ → ℕ → Code → Report
-answer d n C = if not (ltb d (disks C)) then refused 9 [] else listReport (equations C d) n
-
 module _ (card : List ℕ) (d : ℕ) (f : CardFault) (bad : checkReport (Bad f) ≡ cardReport card) where
   pub bad-report : (n : ℕ) → faultReport f ≡ equationsReport card d n
   unfolding equationsReport
-  bad-report n = sym (bad-card card f (answer d n) bad)
+  bad-report n = sym (bad-card card f (λ D. equationsTests D d n) bad)
 
   pub bad-slice : (slice : List ℕ) → slice ≡ equationsSlice card d slice
   unfolding equationsSlice
@@ -49,10 +44,10 @@ module _ (card : List ℕ) (d k m : ℕ) (g : GoodCard card k m) where
   -- a disk that the code lacks
   module _ (l : k + m ≤ d) where
     pub outside-report : (n : ℕ) → refused 9 [] ≡ equationsReport card d n
-    unfolding equationsReport disks
+    unfolding equationsReport equationsTests disks
     outside-report n =
         sym
-        (good-with card k m (answer d n) g
+        (good-with card k m (λ D. equationsTests D d n) g
         ∙ ap (λ (b : Bool). if not b then refused 9 [] else listReport (equations C d) n) (le-ltb d (k + m) l))
 
     pub outside-slice : (slice : List ℕ) → slice ≡ equationsSlice card d slice
@@ -63,10 +58,10 @@ module _ (card : List ℕ) (d k m : ℕ) (g : GoodCard card k m) where
         (sym (outside-report (length slice))))
 
   pub good-report : (n : ℕ) → d < k + m → listReport (equations C d) n ≡ equationsReport card d n
-  unfolding equationsReport disks
+  unfolding equationsReport equationsTests disks
   good-report n l =
       sym
-      (good-with card k m (answer d n) g
+      (good-with card k m (λ D. equationsTests D d n) g
       ∙ ap (λ (b : Bool). if not b then refused 9 [] else listReport (equations C d) n) (lt-ltb d (k + m) l))
 
   pub good-slice : (slice : List ℕ) (r : Report) → r ≡ equationsReport card d (length slice)

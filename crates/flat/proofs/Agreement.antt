@@ -12,20 +12,21 @@ use lib.Seq.{ext-getD}
 use Rattle.gf2.specs.If.{if_then_else_}
 use Rattle.gf2.specs.Sets.{has, _⊆_, over}
 use Rattle.gf2.proofs.Tests.{dec, eqb-in, eqb-out, unless-in, unless-out}
-use Rattle.gf2.proofs.Subsets.{⊆-out}
+use Rattle.gf2.proofs.Subsets.{⊆-out, ⊆-refl}
 use Rattle.gf2.proofs.Sums.{over-cong}
 use Rattle.flat.specs.Lists.{every, tabulate}
 use Rattle.flat.specs.Cards.{Code, disks}
 use Rattle.flat.specs.Strips.{byteOf, holds, given}
-use Rattle.flat.specs.Erasures.{survivors, fatal}
+use Rattle.flat.specs.Erasures.{survivors, undeterminedSet, determinedSet}
 use Rattle.flat.specs.Rebuilding.{agrees, contents, agreeing, restored}
 use Rattle.flat.specs.Repairs.{filled, equationAmong}
-use Rattle.flat.specs.Rebuilt.{OnlyContent, RestoredFilled}
+use Rattle.flat.specs.Rebuilt.{OneStrip, OnlyContent, RestoredFilled, AllRestoredFilled}
 use Rattle.flat.specs.Demand3.{Agreeing}
 use Rattle.flat.proofs.Lists.{tabulate-cong}
 use Rattle.flat.proofs.Quantifiers.{every-in, every-out}
 use Rattle.flat.proofs.Words.{holds-data}
 use Rattle.flat.proofs.Duality.{survivor-out}
+use Rattle.flat.proofs.Undetermined.{determined-in, none-undetermined, all-determined}
 use Rattle.flat.proofs.Told.{equation-left, left-sum}
 use Rattle.flat.proofs.Positions.{places, at-place, given-byte}
 use Rattle.flat.proofs.Contents.{contents-in, contents-out, filter-some, filter-first}
@@ -60,34 +61,41 @@ pub agree-sum : (C : Code) (S E : ℕ) (f v : ℕ → ℕ) → Agree C S f v →
 agree-sum C S E f v a t =
     over-cong (disks C) E (holds C v) f (λ i l m. a i l (survivor-out C S i (⊆-out E (survivors C S) t i m) .1))
 
--- so where S is not fatal, a lost disk holds the XOR of survivors
-pub lost-sum : (C : Code) (S d : ℕ) (f v : ℕ → ℕ) → (T (fatal C S) → ⊥) → d < disks C → T (has S d) → Agree C S f v
+-- so a determined lost disk holds the XOR of survivors
+pub lost-sum : (C : Code) (S d : ℕ) (f v : ℕ → ℕ) → d < disks C → T (has (determinedSet C S) d) → Agree C S f v
     → holds C v d ≡ over (disks C) (equationAmong C S d) f
-lost-sum C S d f v n l s a =
-    sym (left-sum C S d n l s v) ∙ agree-sum C S (equationAmong C S d) f v a (equation-left C S d n l s .0)
+lost-sum C S d f v l t a =
+    sym (left-sum C S d l t v) ∙ agree-sum C S (equationAmong C S d) f v a (equation-left C S d l t .0)
 
--- and each data disk the same, whatever agrees
-only-data : (C : Code) (S : ℕ) (f v w : ℕ → ℕ) → (T (fatal C S) → ⊥) → Agree C S f v → Agree C S f w → (d : ℕ) → d < C .k → v d ≡ w d
-unfolding disks
-only-data C S f v w n a b d l = sym (holds-data C v d l) ∙ ⊎-elim lost left (dec (has S d)) ∙ holds-data C w d l
+-- and each disk that is not undetermined holds the same, whatever agrees
+pub one-value : (C : Code) (S : ℕ) (f v w : ℕ → ℕ) → Agree C S f v → Agree C S f w → (d : ℕ) → d < disks C
+    → (T (has (undeterminedSet C S) d) → ⊥) → holds C v d ≡ holds C w d
+one-value C S f v w a b d l u = ⊎-elim lost left (dec (has S d))
   where
-    below : d < disks C
-    below = omega arith
-
     lost : T (has S d) → holds C v d ≡ holds C w d
-    lost s = lost-sum C S d f v n below s a ∙ sym (lost-sum C S d f w n below s b)
+    lost s = let t = determined-in C S d s u in lost-sum C S d f v l t a ∙ sym (lost-sum C S d f w l t b)
 
     left : (T (has S d) → ⊥) → holds C v d ≡ holds C w d
-    left s = a d below s ∙ sym (b d below s)
+    left s = a d l s ∙ sym (b d l s)
+
+pub one-strip : OneStrip
+one-strip C L S stripe a b p q d t l h u =
+    given-byte C L a t d h l
+    ∙ one-value C S (byteOf L stripe t) (byteOf L a t) (byteOf L b t) (agrees-out C L S stripe a p t h) (agrees-out C L S stripe b q t h) d l u
+    ∙ sym (given-byte C L b t d h l)
 
 pub only-content : OnlyContent
+unfolding disks
 only-content C L S stripe a b n la lb p q =
     ext-getD 0 a b (la ∙ sym lb)
     (λ i l. let r = places (C .k) L i (subst (λ (x : ℕ). i < x) la l) in
-    at-place L a i
-    ∙ only-data C S (byteOf L stripe (i % L)) (byteOf L a (i % L)) (byteOf L b (i % L)) n (agrees-out C L S stripe a p (i % L) (r .1))
-    (agrees-out C L S stripe b q (i % L) (r .1)) (i / L) (r .0)
-    ∙ sym (at-place L b i))
+    let d = i / L in
+    let t = i % L in
+    let below : d < disks C = omega (arith, r .0) in
+    at-place L a i ∙ sym (holds-data C (byteOf L a t) d (r .0))
+    ∙ one-value C S (byteOf L stripe t) (byteOf L a t) (byteOf L b t) (agrees-out C L S stripe a p t (r .1)) (agrees-out C L S stripe b q t (r .1)) d
+    below (none-undetermined C S n d)
+    ∙ holds-data C (byteOf L b t) d (r .0) ∙ sym (at-place L b i))
 
 -- ---- the contents that agree
 
@@ -117,22 +125,26 @@ agreeing-cases C L S stripe = go (agreeing C L S stripe)
 
 pub restored-filled : RestoredFilled
 unfolding restored filled
-restored-filled C L S stripe e n some =
+restored-filled C L S D stripe e told some =
     ⊎-elim (λ q. absurd (some q))
-    (λ (c, cs, q). ap (restored C L S stripe) q
-    ∙ tabulate-cong (disks C * L) (λ p. if has S (p / L) then getD (given C L c) p 0 else getD stripe p 0) new
+    (λ (c, cs, q). ap (restored C L D stripe) q
+    ∙ tabulate-cong (disks C * L) (λ p. if has D (p / L) then getD (given C L c) p 0 else getD stripe p 0) new
     (λ p l. let r = places (disks C) L p l in
-    go c (first-agreeing C L S stripe c cs q .agree) p (r .0) (r .1) (has S (p / L)) (λ t. t))
+    go c (first-agreeing C L S stripe c cs q .agree) p (r .0) (r .1) (has D (p / L)) (⊆-out D (determinedSet C S) told (p / L)))
     ∙ ap (λ (m : ℕ). tabulate m new) (sym e))
     (agreeing-cases C L S stripe)
   where
     new : ℕ → ℕ
-    new p = if has S (p / L) then over (disks C) (equationAmong C S (p / L)) (byteOf L stripe (p % L)) else getD stripe p 0
+    new p = if has D (p / L) then over (disks C) (equationAmong C S (p / L)) (byteOf L stripe (p % L)) else getD stripe p 0
 
-    go : (c : List ℕ) → T (agrees C L S stripe c) → (p : ℕ) → p / L < disks C → p % L < L → (b : Bool) → (T b → T (has S (p / L)))
+    go : (c : List ℕ) → T (agrees C L S stripe c) → (p : ℕ) → p / L < disks C → p % L < L → (b : Bool) → (T b → T (has (determinedSet C S) (p / L)))
         → (if b then getD (given C L c) p 0 else getD stripe p 0)
         ≡ (if b then over (disks C) (equationAmong C S (p / L)) (byteOf L stripe (p % L)) else getD stripe p 0)
     go c a p l h true s =
         at-place L (given C L c) p ∙ given-byte C L c (p % L) (p / L) h l
-        ∙ lost-sum C S (p / L) (byteOf L stripe (p % L)) (byteOf L c (p % L)) n l (s tt) (agrees-out C L S stripe c a (p % L) h)
+        ∙ lost-sum C S (p / L) (byteOf L stripe (p % L)) (byteOf L c (p % L)) l (s tt) (agrees-out C L S stripe c a (p % L) h)
     go c a p l h false s = refl
+
+pub all-restored-filled : AllRestoredFilled
+all-restored-filled C L S stripe e f =
+    restored-filled C L S S stripe e (subst (λ (D : ℕ). T (S ⊆ D)) (sym (all-determined C S f)) (⊆-refl S))

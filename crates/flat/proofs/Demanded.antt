@@ -17,7 +17,7 @@ use Rattle.flat.specs.Strips.{lengthOk, byteOf, given}
 use Rattle.flat.specs.Erasures.{fatal, minimalErasure, erasures}
 use Rattle.flat.specs.Equations.{minimalEquation, equations}
 use Rattle.flat.specs.Rebuilding.{agreeing}
-use Rattle.flat.specs.Faults.{Report, accepted, refused, cardReport, erasuresReport, equationsReport, survivorsReport, rebuildReport}
+use Rattle.flat.specs.Faults.{Report, accepted, refused, cardReport, erasuresReport, equationsReport, survivorsReport, disksReport, rebuildReport}
 use Rattle.flat.specs.Demand3.{Demand3, Agreeing, OneVerdict, RightList, RightEquations, Restored, RightRebuild, listed, told}
 use Rattle.flat.proofs.Order.{sorted-at}
 use Rattle.flat.proofs.Duality.{fatal-untold}
@@ -83,6 +83,7 @@ module _ (card : List ℕ) (k m S L : ℕ) (stripe : List ℕ) (ok : cardReport 
     (len : T (lengthOk L)) (whole : length stripe ≡ disks (codeOf card) * L) where
   report : rebuildReport card L S stripe
       ≡ (if fatal (codeOf card) S then refused 11 [] else survivorsReport S (agreeing (codeOf card) L S stripe))
+  unfolding disksReport
   report = rebuild-is card (k ∷ m ∷ []) L S stripe ok len set whole
 
   one-verdict : (slice : List ℕ) (slices : ℕ → List ℕ) → length (erasures (codeOf card)) ≤ length slice

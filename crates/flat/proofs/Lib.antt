@@ -27,6 +27,7 @@ pub mod Contents
 pub mod Agreement
 pub mod Solving
 pub mod Consistency
+pub mod Tested
 pub mod Rebuilds
 pub mod Demanded
 pub mod Theorems

@@ -1,71 +1,55 @@
 -- The rebuilder's report and stripe: what they are where the call is accepted, and that bytes of lost strips are unread.
 -- Assumes nothing.
-use mathlib.Core.Path.{_≡_, refl, sym, ap, ap₂, _∙_, subst}
-use mathlib.Core.Bool.{not}
+use mathlib.Core.Path.{_≡_, sym, ap, ap₂, _∙_, subst}
 use mathlib.Core.Logic.{_⊎_, _≢_, ⊎-elim}
 use mathlib.Core.List.{List, [], _∷_}
 use Prim.Native.Nat.{ℕ, _+_, _*_, _/_, _<_}
 use native.Mathlib.Omega.{arith}
 use lib.Arith.{digits-div}
-use lib.Dec.{T, eqb}
+use lib.Dec.{T}
 use lib.ListN.{length, getD}
 use Rattle.gf2.specs.If.{if_then_else_}
 use Rattle.gf2.specs.Sets.{has}
-use Rattle.gf2.proofs.Tests.{T-ext, T-true, if-true, if-false, eqb-in}
+use Rattle.gf2.proofs.Tests.{T-ext, T-true, if-true, if-false}
 use Rattle.flat.specs.Cards.{Code, codeOf, disks, setOk}
 use Rattle.flat.specs.Strips.{lengthOk, byteOf, given}
 use Rattle.flat.specs.Erasures.{fatal}
 use Rattle.flat.specs.Rebuilding.{agrees, contents, agreeing, restored}
-use Rattle.flat.specs.Faults.{Report, accepted, refused, cardReport, withCard, survivorsReport, rebuildReport, rebuildStripe}
+use Rattle.flat.specs.Faults.{Report, accepted, refused, cardReport, stripeTests, survivorsReport, disksReport, rebuildTests, rebuildReport, rebuildStripe}
 use Rattle.flat.specs.Rebuilt.{LostBytesUnread}
 use Rattle.flat.proofs.Reports.{passed-number, unless-number, with-accepted, with-number, with-cong}
+use Rattle.flat.proofs.Tested.{tests-past, tests-passed}
 use Rattle.flat.proofs.Positions.{byte-at}
 use Rattle.flat.proofs.Contents.{filter-cong}
 use Rattle.flat.proofs.Agreement.{agrees-in, agrees-out, agreeing-cases}
 
 -- ---- the report
 
--- the tests after the card's, for a stripe of n bytes with which these contents agree
-tested : Code → ℕ → ℕ → ℕ → List (List ℕ) → Report
-tested C L S n found =
-    if not (lengthOk L) then refused 6 [] else
-    if not (setOk C S) then refused 8 [] else
-    if not (eqb n (disks C * L)) then refused 7 [] else
-    if fatal C S then refused 11 [] else
-    survivorsReport S found
-
-report-tested : (card : List ℕ) (L S : ℕ) (stripe : List ℕ)
-    → rebuildReport card L S stripe ≡ withCard card (λ C. tested C L S (length stripe) (agreeing C L S stripe))
-unfolding rebuildReport tested
-report-tested card L S stripe = refl
-
--- where it is accepted, some content agrees
-tested-number : (C : Code) (L S n : ℕ) (found : List (List ℕ)) → tested C L S n found .number ≡ 0 → found ≢ []
-unfolding tested survivorsReport
-tested-number C L S n found e q =
-    let a = passed-number (not (lengthOk L)) 5 [] _ e in
-    let b = passed-number (not (setOk C S)) 7 [] _ (a .1) in
-    let c = passed-number (not (eqb n (disks C * L))) 6 [] _ (b .1) in
-    let d = passed-number (fatal C S) 10 [] (survivorsReport S found) (c .1) in
+-- where the disks have no fault, some content agrees
+disks-number : (C : Code) (L S : ℕ) (stripe : List ℕ) → disksReport C L S stripe .number ≡ 0 → agreeing C L S stripe ≢ []
+unfolding disksReport survivorsReport
+disks-number C L S stripe e q =
+    let d = passed-number (fatal C S) 10 [] (survivorsReport S (agreeing C L S stripe)) e in
     let z : _≡_ {A = ℕ} 12 0 = subst (λ (l : List (List ℕ)). survivorsReport S l .number ≡ 0) q (d .1) in
     omega arith
 
 pub accepted-some : (card : List ℕ) (L S : ℕ) (stripe : List ℕ) → rebuildReport card L S stripe .number ≡ 0 → agreeing (codeOf card) L S stripe ≢ []
+unfolding rebuildReport rebuildTests
 accepted-some card L S stripe e =
-    let f : Code → Report = λ C. tested C L S (length stripe) (agreeing C L S stripe) in
-    let q = ap (λ (r : Report). r .number) (report-tested card L S stripe) in
-    let g = with-number card f (sym q ∙ e) in
-    tested-number (codeOf card) L S (length stripe) (agreeing (codeOf card) L S stripe) (sym (ap (λ (r : Report). r .number) g) ∙ sym q ∙ e)
+    let C = codeOf card in
+    let number : Report → ℕ = λ r. r .number in
+    let t = sym (ap number (with-number card (λ D. rebuildTests D L S stripe) e)) ∙ e in
+    let next = disksReport C L S stripe in
+    disks-number C L S stripe (sym (ap number (tests-past C L S (length stripe) next (tests-passed C L S (length stripe) next t))) ∙ t)
 
 -- what is left to test for an accepted card, a set of its disks, a length and a stripe of that length
 pub rebuild-is : (card ws : List ℕ) (L S : ℕ) (stripe : List ℕ) → cardReport card ≡ accepted ws → T (lengthOk L) → T (setOk (codeOf card) S)
-    → length stripe ≡ disks (codeOf card) * L
-    → rebuildReport card L S stripe
-    ≡ (if fatal (codeOf card) S then refused 11 [] else survivorsReport S (agreeing (codeOf card) L S stripe))
-unfolding tested
+    → length stripe ≡ disks (codeOf card) * L → rebuildReport card L S stripe ≡ disksReport (codeOf card) L S stripe
+unfolding rebuildReport rebuildTests
 rebuild-is card ws L S stripe ok a b e =
-    report-tested card L S stripe ∙ with-accepted card ws (λ C. tested C L S (length stripe) (agreeing C L S stripe)) ok
-    ∙ rw (T-true {b = lengthOk L} a, T-true {b = setOk (codeOf card) S} b, T-true {b = eqb (length stripe) (disks (codeOf card) * L)} (eqb-in e))
+    let C = codeOf card in
+    with-accepted card ws (λ D. rebuildTests D L S stripe) ok
+    ∙ tests-past C L S (length stripe) (disksReport C L S stripe) (record { length-ok = T-true {b = lengthOk L} a; set-ok = T-true {b = setOk C S} b; size = e })
 
 -- ---- the stripe
 
@@ -110,11 +94,12 @@ agreeing-alike C L S stripe other same =
 
 report-alike : (card : List ℕ) (L S : ℕ) (stripe other : List ℕ) → length stripe ≡ length other → SameLeft (codeOf card) L S stripe other
     → rebuildReport card L S stripe ≡ rebuildReport card L S other
+unfolding rebuildReport rebuildTests disksReport
 report-alike card L S stripe other e same =
-    report-tested card L S stripe
-    ∙ with-cong card (λ C. tested C L S (length stripe) (agreeing C L S stripe)) (λ C. tested C L S (length other) (agreeing C L S other))
-    (ap₂ (tested (codeOf card) L S) e (agreeing-alike (codeOf card) L S stripe other same))
-    ∙ sym (report-tested card L S other)
+    let C = codeOf card in
+    with-cong card (λ D. rebuildTests D L S stripe) (λ D. rebuildTests D L S other)
+    (ap₂ (λ (n : ℕ) (found : List (List ℕ)). stripeTests C L S n (if fatal C S then refused 11 [] else survivorsReport S found)) e
+    (agreeing-alike C L S stripe other same))
 
 pub lost-bytes-unread : LostBytesUnread
 lost-bytes-unread card L S stripe other e same =

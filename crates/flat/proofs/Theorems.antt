@@ -66,6 +66,9 @@ undetermined-union C S = (unions.undetermined-set C S, unions.undetermined-union
 pub fatal-undetermined : Theorems.FatalUndetermined
 fatal-undetermined = unions.fatal-undetermined
 
+pub undetermined-lost : Theorems.UndeterminedLost
+undetermined-lost = unions.undetermined-lost
+
 pub erasures-exact : Theorems.ErasuresExact
 erasures-exact C S = (listed.erasures-out C S, λ p. listed.erasures-in C S (p .0) (p .1))
 
@@ -126,8 +129,20 @@ equation-left = left.equation-left
 pub restored-filled : Rebuilt.RestoredFilled
 restored-filled = agreement.restored-filled
 
+pub all-determined : Rebuilt.AllDetermined
+all-determined = unions.all-determined
+
+pub each-equation-left : Rebuilt.EachEquationLeft
+each-equation-left = left.each-equation-left
+
+pub all-restored-filled : Rebuilt.AllRestoredFilled
+all-restored-filled = agreement.all-restored-filled
+
 pub consistent-agrees : Rebuilt.ConsistentAgrees
 consistent-agrees = consistency.consistent-agrees
+
+pub one-strip : Rebuilt.OneStrip
+one-strip = agreement.one-strip
 
 pub only-content : Rebuilt.OnlyContent
 only-content = agreement.only-content

@@ -1,4 +1,4 @@
--- The equation that `within` leaves of a lost disk, where the lost set is not fatal.
+-- The equation that `within` leaves of a determined lost disk.
 -- Assumes nothing.
 use mathlib.Core.Path.{_≡_, sym, subst}
 use mathlib.Core.Bool.{Bool, true, false}
@@ -18,12 +18,13 @@ use Rattle.gf2.proofs.Spans.{first-in}
 use Rattle.gf2.proofs.Elimination.{within-spans}
 use Rattle.flat.specs.Cards.{Code, disks}
 use Rattle.flat.specs.Strips.{holds}
-use Rattle.flat.specs.Erasures.{survivors, fatal}
+use Rattle.flat.specs.Erasures.{survivors, undeterminedSet, determinedSet}
 use Rattle.flat.specs.Equations.{equation}
 use Rattle.flat.specs.Spans.{checks}
-use Rattle.flat.specs.Repairs.{holder, equationAmong}
-use Rattle.flat.specs.Rebuilt.{EquationLeft}
-use Rattle.flat.proofs.Duality.{Told, survivor-out, survivors-lt, told-or-held, held-fatal}
+use Rattle.flat.specs.Repairs.{holder, equationIn, equationAmong}
+use Rattle.flat.specs.Rebuilt.{EquationLeft, EachEquationLeft}
+use Rattle.flat.proofs.Duality.{Told, survivor-out, survivors-lt, told-or-held}
+use Rattle.flat.proofs.Undetermined.{held-set, determined-in, determined-out, none-undetermined}
 use Rattle.flat.proofs.CheckWords.{equation-word, word-equation, equation-sum, no-disk}
 
 -- where some word of a span holds disk d, so does the row that `holder` finds
@@ -41,14 +42,17 @@ holder-has d (b ∷ bs) w s m = go (has b d) (λ t. t) (λ t. t) s (holder-has d
         let r = rest (b ⊕ w) s (subst (λ (x : ℕ). T (has x d)) (⊕-comm w b) (⊕-left w b d m g)) in (r .0, inl (r .1))
 
 pub equation-left : EquationLeft
-unfolding equationAmong
-equation-left C S d f l s = ⊎-elim found (λ h. absurd (f (held-fatal C S d h))) (told-or-held C S d l s)
+unfolding equationAmong equationIn
+equation-left C S d l t = ⊎-elim found (λ h. absurd (known .1 (held-set C S d h))) (told-or-held C S d l (known .0))
   where
+    known : T (has S d) × (T (has (undeterminedSet C S) d) → ⊥)
+    known = determined-out C S d t
+
     R : ℕ
     R = survivors C S
 
     lost : T (has R d) → ⊥
-    lost t = survivor-out C S d t .1 s
+    lost t = survivor-out C S d t .1 (known .0)
 
     found : Told C S d → T (equationAmong C S d ⊆ R) × T (equation C d (equationAmong C S d))
     found (E, t, q) =
@@ -66,8 +70,12 @@ equation-left C S d f l s = ⊎-elim found (λ h. absurd (f (held-fatal C S d h)
 pub among-lt : (C : Code) (S E : ℕ) → T (E ⊆ survivors C S) → E < 2 ^ disks C
 among-lt C S E t = lt-of-le-of-lt (⊆-le E (survivors C S) t) (survivors-lt C S)
 
--- so what each lost disk holds is the XOR of what survivors hold
-pub left-sum : (C : Code) (S d : ℕ) → (T (fatal C S) → ⊥) → d < disks C → T (has S d) → (v : ℕ → ℕ)
+-- so what the disk holds is the XOR of what survivors hold
+pub left-sum : (C : Code) (S d : ℕ) → d < disks C → T (has (determinedSet C S) d) → (v : ℕ → ℕ)
     → over (disks C) (equationAmong C S d) (holds C v) ≡ holds C v d
-left-sum C S d f l s v =
-    let e = equation-left C S d f l s in equation-sum C d l (equationAmong C S d) (among-lt C S (equationAmong C S d) (e .0)) (e .1) v
+left-sum C S d l t v =
+    let e = equation-left C S d l t in equation-sum C d l (equationAmong C S d) (among-lt C S (equationAmong C S d) (e .0)) (e .1) v
+
+-- where the lost set is not fatal, each lost disk is determined
+pub each-equation-left : EachEquationLeft
+each-equation-left C S d f l s = equation-left C S d l (determined-in C S d s (none-undetermined C S f d))

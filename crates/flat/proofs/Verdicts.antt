@@ -18,7 +18,7 @@ use Rattle.flat.specs.Lists.{member}
 use Rattle.flat.specs.Cards.{Code, codeOf, disks, setOk}
 use Rattle.flat.specs.Erasures.{survivors, fatal, erasures}
 use Rattle.flat.specs.Equations.{equations}
-use Rattle.flat.specs.Faults.{Report, accepted, refused, yesNo, cardReport, verdictReport, listReport, listSlice, erasuresReport, erasuresSlice, equationsReport, equationsSlice}
+use Rattle.flat.specs.Faults.{Report, accepted, refused, yesNo, cardReport, verdictTests, verdictReport, listReport, listSlice, erasuresReport, erasuresSlice, equationsTests, equationsReport, equationsSlice}
 use Rattle.flat.specs.Theorems.{VerdictListed, EquationListed, LongSlicesAccepted}
 use Rattle.flat.proofs.Reports.{passed, unless-accepted, with-accepted, list-fits, list-written}
 use Rattle.flat.proofs.Quantifiers.{set-lt}
@@ -41,9 +41,9 @@ module _ (card : List ℕ) (k m : ℕ) (ok : cardReport card ≡ accepted (k ∷
   C = codeOf card
 
   pub verdict-is : (S : ℕ) → T (setOk C S) → verdictReport card S ≡ accepted (yesNo (fatal C S) ∷ [])
-  unfolding verdictReport
+  unfolding verdictReport verdictTests
   verdict-is S t =
-      with-accepted card (k ∷ m ∷ []) (λ D. if not (setOk D S) then refused 8 [] else accepted (yesNo (fatal D S) ∷ [])) ok
+      with-accepted card (k ∷ m ∷ []) (λ D. verdictTests D S) ok
       ∙ ap (λ (b : Bool). if not b then refused 8 [] else accepted (yesNo (fatal C S) ∷ [])) (T-true {b = setOk C S} t)
 
   -- what the lister writes, and what the equation call writes
@@ -57,11 +57,11 @@ module _ (card : List ℕ) (k m : ℕ) (ok : cardReport card ≡ accepted (k ∷
   -- the equation call accepts only a disk of the code
   equations-accepted : (d n count : ℕ) → equationsReport card d n ≡ accepted (count ∷ [])
       → T (ltb d (disks C)) × (listReport (equations C d) n ≡ accepted (count ∷ []))
-  unfolding equationsReport
+  unfolding equationsReport equationsTests
   equations-accepted d n count e =
       let p =
       passed (not (ltb d (disks C))) 8 [] (count ∷ []) (listReport (equations C d) n)
-      (sym (with-accepted card (k ∷ m ∷ []) (λ D. if not (ltb d (disks D)) then refused 9 [] else listReport (equations D d) n) ok) ∙ e) in
+      (sym (with-accepted card (k ∷ m ∷ []) (λ D. equationsTests D d n) ok) ∙ e) in
       (not-false (ltb d (disks C)) (p .0), p .1)
 
   pub equations-written : (d : ℕ) (slice : List ℕ) (count : ℕ) → equationsReport card d (length slice) ≡ accepted (count ∷ [])
@@ -97,11 +97,11 @@ equation-listed card slice S d k m count ok e =
     )
 
 pub long-slices-accepted : LongSlicesAccepted
-unfolding erasuresReport equationsReport
+unfolding erasuresReport equationsReport equationsTests
 long-slices-accepted card n d k m ok =
     let C = codeOf card in (
       λ l. with-accepted card (k ∷ m ∷ []) (λ D. listReport (erasures D) n) ok ∙ sym (list-fits (erasures C) n (length (erasures C)) refl l),
-      λ h l. with-accepted card (k ∷ m ∷ []) (λ D. if not (ltb d (disks D)) then refused 9 [] else listReport (equations D d) n) ok
+      λ h l. with-accepted card (k ∷ m ∷ []) (λ D. equationsTests D d n) ok
           ∙ ap (λ (b : Bool). if not b then refused 9 [] else listReport (equations C d) n) (lt-ltb d (disks C) h)
           ∙ sym (list-fits (equations C d) n (length (equations C d)) refl l),
     )

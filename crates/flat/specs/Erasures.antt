@@ -7,7 +7,7 @@ use mathlib.Core.List.{List, map}
 use Prim.Native.Nat.{ℕ, suc, _^_}
 use lib.Dec.{eqb}
 use lib.ListN.{length}
-use Rattle.gf2.specs.Sets.{bit, has, size, _⊂_}
+use Rattle.gf2.specs.Sets.{bit, has, size, _∖_, _⊂_}
 use Rattle.flat.specs.Lists.{some, every, setOf, range, filter, orderedBy}
 use Rattle.flat.specs.Cards.{Code, disks, dataPart}
 use Rattle.flat.specs.Strips.{holds}
@@ -31,6 +31,21 @@ survivors C S = setOf (disks C) (λ i. not (has S i))
 unfoldable pub fatal : Code → ℕ → Bool
 unfolding some agreeOutside
 fatal C S = some (2 ^ C .k) (λ x. some (2 ^ C .k) (λ y. not (eqb x y) && agreeOutside C S x y))
+
+-- does the loss of S leave disk d undetermined: do two data words that agree outside S differ on it?
+unfoldable pub undetermined : Code → ℕ → ℕ → Bool
+unfolding some agreeOutside holdsBit
+undetermined C S d =
+    some (2 ^ C .k) (λ x. some (2 ^ C .k) (λ y. agreeOutside C S x y && not (eqb (holdsBit C x d) (holdsBit C y d))))
+
+-- the undetermined disks of S, and its other disks, which the survivors determine
+unfoldable pub undeterminedSet : Code → ℕ → ℕ
+unfolding setOf disks undetermined
+undeterminedSet C S = setOf (disks C) (undetermined C S)
+
+unfoldable pub determinedSet : Code → ℕ → ℕ
+unfolding _∖_ undeterminedSet
+determinedSet C S = S ∖ undeterminedSet C S
 
 -- is S a minimal erasure: fatal, with no fatal proper subset?
 unfoldable pub minimalErasure : Code → ℕ → Bool

@@ -79,13 +79,16 @@ cardWriteBuffer C buffer = unlessRefused (cardWriteReport C (length buffer)) (ca
 
 -- ---- the encoder, for a stripe of n bytes
 
-unfoldable pub encodeReport : List ℕ → ℕ → ℕ → Report
-unfolding withCard lengthOk disks
-encodeReport card L n =
-    withCard card (λ C.
+unfoldable pub encodeTests : Code → ℕ → ℕ → Report
+unfolding lengthOk disks
+encodeTests C L n =
     if not (lengthOk L) then refused 6 [] else
     if not (eqb n (disks C * L)) then refused 7 [] else
-    accepted [])
+    accepted []
+
+unfoldable pub encodeReport : List ℕ → ℕ → ℕ → Report
+unfolding withCard encodeTests
+encodeReport card L n = withCard card (λ C. encodeTests C L n)
 
 unfoldable pub encodeStripe : List ℕ → ℕ → List ℕ → List ℕ
 unfolding unlessRefused encodeReport encoded codeOf
@@ -93,9 +96,13 @@ encodeStripe card L stripe = unlessRefused (encodeReport card L (length stripe))
 
 -- ---- the verdict call
 
+unfoldable pub verdictTests : Code → ℕ → Report
+unfolding setOk yesNo fatal
+verdictTests C S = if not (setOk C S) then refused 8 [] else accepted (yesNo (fatal C S) ∷ [])
+
 unfoldable pub verdictReport : List ℕ → ℕ → Report
-unfolding withCard setOk yesNo fatal
-verdictReport card S = withCard card (λ C. if not (setOk C S) then refused 8 [] else accepted (yesNo (fatal C S) ∷ []))
+unfolding withCard verdictTests
+verdictReport card S = withCard card (λ C. verdictTests C S)
 
 -- ---- the calls that fill a lent slice of n entries with a list
 
@@ -121,10 +128,13 @@ erasuresSlice card slice =
     unlessRefused (erasuresReport card (length slice)) (listSlice (erasures (codeOf card)) slice) slice
 
 -- the equation call: the count
+unfoldable pub equationsTests : Code → ℕ → ℕ → Report
+unfolding disks listReport equations
+equationsTests C d n = if not (ltb d (disks C)) then refused 9 [] else listReport (equations C d) n
+
 unfoldable pub equationsReport : List ℕ → ℕ → ℕ → Report
-unfolding withCard disks listReport equations
-equationsReport card d n =
-    withCard card (λ C. if not (ltb d (disks C)) then refused 9 [] else listReport (equations C d) n)
+unfolding withCard equationsTests
+equationsReport card d n = withCard card (λ C. equationsTests C d n)
 
 unfoldable pub equationsSlice : List ℕ → ℕ → List ℕ → List ℕ
 unfolding unlessRefused equationsReport listSlice equations codeOf
@@ -133,21 +143,33 @@ equationsSlice card d slice =
 
 -- ---- the rebuilder
 
+-- the faults 6, 8 and 7 of a strip length, a lost set and a stripe of n bytes; else what follows
+unfoldable pub stripeTests : Code → ℕ → ℕ → ℕ → Report → Report
+unfolding lengthOk setOk disks
+stripeTests C L S n next =
+    if not (lengthOk L) then refused 6 [] else
+    if not (setOk C S) then refused 8 [] else
+    if not (eqb n (disks C * L)) then refused 7 [] else
+    next
+
 -- no content agrees with the survivors, or the number of lost disks
 unfoldable pub survivorsReport : ℕ → List (List ℕ) → Report
 unfolding size
 survivorsReport S [] = refused 12 []
 survivorsReport S (content ∷ others) = accepted (size S ∷ [])
 
+-- the faults of the disks
+unfoldable pub disksReport : Code → ℕ → ℕ → List ℕ → Report
+unfolding fatal survivorsReport agreeing
+disksReport C L S stripe = if fatal C S then refused 11 [] else survivorsReport S (agreeing C L S stripe)
+
+unfoldable pub rebuildTests : Code → ℕ → ℕ → List ℕ → Report
+unfolding stripeTests disksReport
+rebuildTests C L S stripe = stripeTests C L S (length stripe) (disksReport C L S stripe)
+
 unfoldable pub rebuildReport : List ℕ → ℕ → ℕ → List ℕ → Report
-unfolding withCard lengthOk setOk disks fatal survivorsReport agreeing
-rebuildReport card L S stripe =
-    withCard card (λ C.
-    if not (lengthOk L) then refused 6 [] else
-    if not (setOk C S) then refused 8 [] else
-    if not (eqb (length stripe) (disks C * L)) then refused 7 [] else
-    if fatal C S then refused 11 [] else
-    survivorsReport S (agreeing C L S stripe))
+unfolding withCard rebuildTests
+rebuildReport card L S stripe = withCard card (λ C. rebuildTests C L S stripe)
 
 unfoldable pub rebuildStripe : List ℕ → ℕ → ℕ → List ℕ → List ℕ
 unfolding unlessRefused rebuildReport restored agreeing codeOf

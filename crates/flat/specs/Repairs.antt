@@ -48,7 +48,12 @@ unfolding has
 holder d [] = 0
 holder d (w ∷ ws) = if has w d then w else holder d ws
 
--- an equation among the survivors of S, of disk d of S: a check word with no other disk of S, less d
+-- of the span of some check words, one of disk d and of disks of R, less d; the empty set where there is none
+unfoldable pub equationIn : List ℕ → ℕ → ℕ → ℕ
+unfolding holder within _⊕_ _∖_
+equationIn words R d = holder d (within (R ⊕ 2 ^ d) words) ∖ 2 ^ d
+
+-- an equation among the survivors of S, of disk d of S
 unfoldable pub equationAmong : Code → ℕ → ℕ → ℕ
-unfolding holder within survivors checks _⊕_ _∖_
-equationAmong C S d = holder d (within (survivors C S ⊕ 2 ^ d) (checks C)) ∖ 2 ^ d
+unfolding equationIn checks survivors
+equationAmong C S d = equationIn (checks C) (survivors C S) d

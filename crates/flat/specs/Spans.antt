@@ -1,7 +1,6 @@
 -- The same code as two spans: its codewords are the span of k rows, and the sets whose bits XOR to 0 that of m checks.
 -- Computing code goes by these; nobody has to believe them, since Theorems says what they are and no public contract names them.
 -- Assumes nothing.
-use mathlib.Core.Bool.{Bool, not, _&&_}
 use mathlib.Core.List.{List, map}
 use Prim.Native.Nat.{ℕ, suc, _+_, _-_, _^_}
 use lib.Dec.{eqb, ltb}
@@ -10,9 +9,9 @@ use Rattle.gf2.specs.If.{if_then_else_}
 use Rattle.gf2.specs.Sets.{has, size, _∖_}
 use Rattle.gf2.specs.Span.{select}
 use Rattle.gf2.specs.Within.{within}
-use Rattle.flat.specs.Lists.{some, setOf, range, tabulate, filter, orderedBy}
+use Rattle.flat.specs.Lists.{setOf, range, tabulate, filter, orderedBy}
 use Rattle.flat.specs.Cards.{Code, disks, column}
-use Rattle.flat.specs.Erasures.{holdsBit, agreeOutside}
+use Rattle.flat.specs.Erasures.{holdsBit}
 
 -- the codeword of a data word: the disks that hold 1
 unfoldable pub codeword : Code → ℕ → ℕ
@@ -36,12 +35,6 @@ check C j = setOf (disks C) (λ d. if ltb d (C .k) then has (column C j) d else 
 unfoldable pub checks : Code → List ℕ
 unfolding tabulate check
 checks C = tabulate (C .m) (check C)
-
--- do two data words that agree outside S differ on disk d?
-unfoldable pub undetermined : Code → ℕ → ℕ → Bool
-unfolding some agreeOutside holdsBit
-undetermined C S d =
-    some (2 ^ C .k) (λ x. some (2 ^ C .k) (λ y. agreeOutside C S x y && not (eqb (holdsBit C x d) (holdsBit C y d))))
 
 -- the numbers that select a minimal word of a span: one row is left inside the word
 unfoldable pub selectors : List ℕ → List ℕ

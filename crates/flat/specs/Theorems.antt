@@ -9,12 +9,12 @@ use lib.ListN.{length, getD, take}
 use Rattle.gf2.specs.Sets.{has, size, _⊕_, _⊆_, union, over}
 use Rattle.gf2.specs.Span.{InSpan, Independent}
 use Rattle.gf2.specs.Within.{within}
-use Rattle.flat.specs.Lists.{Bytes, setOf, member, padded}
+use Rattle.flat.specs.Lists.{Bytes, member, padded}
 use Rattle.flat.specs.Cards.{Code, code, codeOf, disks, column, setOk, dataPart}
-use Rattle.flat.specs.Erasures.{holdsBit, survivors, fatal, minimalErasure, erasures}
+use Rattle.flat.specs.Erasures.{holdsBit, survivors, fatal, undetermined, undeterminedSet, minimalErasure, erasures}
 use Rattle.flat.specs.Equations.{equation, minimalEquation, equations}
 use Rattle.flat.specs.Faults.{accepted, cardReport, cardColumns, cardWriteReport, cardWriteBuffer, verdictReport, erasuresReport, erasuresSlice, equationsReport, equationsSlice}
-use Rattle.flat.specs.Spans.{codeword, rows, checks, undetermined, erasuresByWord, equationsByParities}
+use Rattle.flat.specs.Spans.{codeword, rows, checks, erasuresByWord, equationsByParities}
 
 -- ---- cards (demand 2)
 
@@ -88,12 +88,16 @@ UndeterminedUntold =
 abbrev pub UndeterminedUnion : Type 0
 UndeterminedUnion =
     (C : Code) (S : ℕ)
-    → (setOf (disks C) (undetermined C S) ≡ union (within S (rows C)))
+    → (undeterminedSet C S ≡ union (within S (rows C)))
     × ((d : ℕ) → d < disks C → T (undetermined C S d) ↔ T (has (union (within S (rows C))) d))
 
 -- A set is fatal exactly where some disk is undetermined.
 abbrev pub FatalUndetermined : Type 0
-FatalUndetermined = (C : Code) (S : ℕ) → T (fatal C S) ↔ (setOf (disks C) (undetermined C S) ≢ 0)
+FatalUndetermined = (C : Code) (S : ℕ) → T (fatal C S) ↔ (undeterminedSet C S ≢ 0)
+
+-- Only lost disks are undetermined.
+abbrev pub UndeterminedLost : Type 0
+UndeterminedLost = (C : Code) (S : ℕ) → T (undeterminedSet C S ⊆ S)
 
 -- ---- the list of minimal erasures
 

@@ -1,23 +1,47 @@
--- What the rebuilder answers and leaves in the stripe, for a good card and for a bad one.
+-- What the rebuilder answers at each way out of its tests, and what it answers and leaves in the stripe for a good card and for a bad one.
 -- Assumes nothing.
 use mathlib.Core.Path.{_≡_, sym, ap, _∙_}
-use mathlib.Core.List.{List}
-use Prim.Native.Nat.{ℕ}
-use lib.ListN.{drop}
-use Rattle.flat.specs.Cards.{Code, code, codeOf, columnsIn}
+use mathlib.Core.Bool.{true, false}
+use mathlib.Core.Logic.{_≢_}
+use mathlib.Core.List.{List, []}
+use Prim.Native.Nat.{ℕ, _+_, _*_, _^_}
+use lib.Dec.{ltb}
+use lib.ListN.{length, drop}
+use Rattle.flat.specs.Cards.{Code, code, disks, setOk, codeOf, columnsIn}
+use Rattle.flat.specs.Strips.{lengthOk}
 use Rattle.flat.specs.Rebuilding.{agreeing, restored}
-use Rattle.flat.specs.Faults.{Report, unlessRefused, cardReport, rebuildReport, rebuildStripe}
+use Rattle.flat.specs.Faults.{Report, unlessRefused, refused, cardReport, disksReport, rebuildTests, rebuildReport, rebuildStripe}
+use Rattle.flat.proofs.Tested.{Passed, tests-length, tests-set, tests-size, tests-past}
 use Rattle.card.specs.declared.CardFault.{CardFault}
 use Rattle.card.specs.declared.CardCheck.the-variants.{Bad}
 use Rattle.card.specs.Reports.{faultReport, checkReport}
 use Rattle.card.proofs.Laws.{unless-fault}
 use Rattle.card.proofs.Callers.{GoodCard, good-with, bad-card}
-use Rattle.decision.specs.Tests.{tested}
+
+module _ (k m : ℕ) (columns : List ℕ) (L S : ℕ) (stripe : List ℕ) where
+  abbrev C : Code
+  C = code k m columns
+
+  pub length-report : lengthOk L ≡ false → refused 6 [] ≡ rebuildTests C L S stripe
+  unfolding rebuildTests
+  length-report = tests-length C L S (length stripe) (disksReport C L S stripe)
+
+  pub set-report : lengthOk L ≡ true → ltb S (2 ^ (k + m)) ≡ false → refused 8 [] ≡ rebuildTests C L S stripe
+  unfolding rebuildTests setOk disks
+  set-report = tests-set C L S (length stripe) (disksReport C L S stripe)
+
+  pub size-report : lengthOk L ≡ true → ltb S (2 ^ (k + m)) ≡ true → length stripe ≢ (k + m) * L → refused 7 [] ≡ rebuildTests C L S stripe
+  unfolding rebuildTests setOk disks
+  size-report = tests-size C L S (length stripe) (disksReport C L S stripe)
+
+  pub past-report : Passed C L S (length stripe) → disksReport C L S stripe ≡ rebuildTests C L S stripe
+  unfolding rebuildTests
+  past-report p = sym (tests-past C L S (length stripe) (disksReport C L S stripe) p)
 
 pub good-report : (card : List ℕ) (k m L S : ℕ) (stripe : List ℕ) → GoodCard card k m
-    → rebuildReport card L S stripe ≡ tested (code k m (columnsIn m (drop 2 card))) L S stripe
-unfolding rebuildReport tested
-good-report card k m L S stripe g = good-with card k m (λ C. tested C L S stripe) g
+    → rebuildReport card L S stripe ≡ rebuildTests (code k m (columnsIn m (drop 2 card))) L S stripe
+unfolding rebuildReport
+good-report card k m L S stripe g = good-with card k m (λ C. rebuildTests C L S stripe) g
 
 pub good-stripe : (card : List ℕ) (k m L S : ℕ) (stripe : List ℕ) (r : Report) → GoodCard card k m → r ≡ rebuildReport card L S stripe
     → unlessRefused r (restored (code k m (columnsIn m (drop 2 card))) L S stripe (agreeing (code k m (columnsIn m (drop 2 card))) L S stripe)) stripe
@@ -28,8 +52,8 @@ good-stripe card k m L S stripe r g e =
     ∙ ap (λ (x : Report). unlessRefused x (restored (codeOf card) L S stripe (agreeing (codeOf card) L S stripe)) stripe) e
 
 pub bad-report : (card : List ℕ) (f : CardFault) (L S : ℕ) (stripe : List ℕ) → checkReport (Bad f) ≡ cardReport card → faultReport f ≡ rebuildReport card L S stripe
-unfolding rebuildReport tested
-bad-report card f L S stripe e = sym (bad-card card f (λ C. tested C L S stripe) e)
+unfolding rebuildReport
+bad-report card f L S stripe e = sym (bad-card card f (λ C. rebuildTests C L S stripe) e)
 
 pub bad-stripe : (card : List ℕ) (f : CardFault) (L S : ℕ) (stripe : List ℕ) → checkReport (Bad f) ≡ cardReport card → stripe ≡ rebuildStripe card L S stripe
 unfolding rebuildStripe

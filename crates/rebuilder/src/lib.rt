@@ -1,33 +1,55 @@
 // The rebuilder: lost strips out of the survivors.
 //
 // Every byte string, length, set and stripe is a legal argument. What is answered for which input, and
-// what is left in the stripe, is said in flat/specs/Faults.antt. Both refusals of the disks are decided
-// before a byte is written, in crate decision.
+// what is left in the stripe, is said in flat/specs/Faults.antt. What the survivors tell is found on sets
+// (crate repairs); the strips are read and written by these sets alone (crate strips), and no byte is
+// written before every refusal is decided.
 ghost use mathlib.Core.Path.{_≡_};
 ghost use Prim.Native.Nat.{ℕ, _+_, _*_, _^_, _<_, _≤_};
-ghost use lib.Dec.{T};
 ghost use lib.ListN.{length};
 ghost use Rattle.flat.specs.Lists.{field};
 ghost use Rattle.flat.specs.Cards.{code, columnsIn};
-ghost use Rattle.flat.specs.Erasures.{fatal};
 ghost use Rattle.flat.specs.Rebuilding.{agreeing, restored};
-ghost use Rattle.flat.specs.Repairs.{filled, equationAmong};
-ghost use Rattle.flat.specs.Faults.{unlessRefused, rebuildReport, rebuildStripe};
-ghost use Rattle.decision.specs.Reports.{rebuiltReport};
-ghost use Rattle.decision.specs.Tests.{tested};
+ghost use Rattle.flat.specs.Faults.{unlessRefused, disksReport, rebuildTests, rebuildReport, rebuildStripe};
+ghost use Rattle.rebuilder.specs.Reports.{rebuiltReport};
 use card::CardCheck;
-pub use decision::Rebuilt;
+use card::CardFault;
 
-// Fills the lost strips, each by its equation among the survivors.
-fn restore(columns: &[u8], k: usize, m: usize, l: usize, lost: u32, stripe: &mut [u8])
+// The rebuilder's answer: how many disks were lost, the card's fault, a strip length that is none, a set
+// with a disk that the code lacks, a stripe of another length, a fatal set, or survivors of no content.
+pub enum Rebuilt {
+    Disks(u32),
+    Card(CardFault),
+    StripLength,
+    OutsideSet,
+    StripeLength,
+    Fatal,
+    Inconsistent,
+}
+
+// The rebuilder past the tests of its arguments. The set is fatal where some disk stays undetermined, and
+// no content encodes to the survivors where a check word among them does not vanish. Else each lost strip
+// is filled by its equation.
+fn restore(columns: &[u8], k: usize, m: usize, l: usize, lost: u32, stripe: &mut [u8]) -> Rebuilt
     requires { ⌜ (1 ≤ k) × (k ≤ 16) × (m ≤ 16) × (2 * m ≤ length (now columns)) ⌝ }
     requires { ⌜ ((j : ℕ) → j < m → field (2 * j) 2 (now columns) < 2 ^ k) ⌝ }
-    requires { ⌜ (1 ≤ l) × (lost < 2 ^ (k + m)) × (length (now stripe) ≡ (k + m) * l) × (T (fatal (code k m (columnsIn m (now columns))) lost) → ⊥) ⌝ }
-    ensures { λ _. ⌜ now (stripe .exit) ≡ filled (k + m) l (equationAmong (code k m (columnsIn m (now (columns .entry)))) lost) lost (now (stripe .entry)) ⌝ }
+    requires { ⌜ (1 ≤ l) × (l ≤ 65536) × (lost < 2 ^ (k + m)) × (length (now stripe) ≡ (k + m) * l) ⌝ }
+    ensures { λ r. ⌜ rebuiltReport r ≡ disksReport (code k m (columnsIn m (now (columns .entry)))) l lost (now (stripe .entry)) ⌝ }
+    ensures { λ r. ⌜ now (stripe .exit) ≡ unlessRefused (rebuiltReport r) (restored (code k m (columnsIn m (now (columns .entry)))) l lost (now (stripe .entry)) (agreeing (code k m (columnsIn m (now (columns .entry)))) l lost (now (stripe .entry)))) (now (stripe .entry)) ⌝ }
 {
     let n = k + m;
-    let equations = repairs::equations(columns, k, m, lost);
+    if repairs::undetermined(bases::rows(columns, k, m), lost) != 0 {
+        return Rebuilt::Fatal;
+    }
+    let checks = bases::checks(columns, k, m);
+    let left = gf2::survivors(n, lost);
+    if !strips::all_vanish(stripe, l, n, gf2::within(checks, left)) {
+        return Rebuilt::Inconsistent;
+    }
+    let equations = repairs::equations(checks, n, left, lost);
     strips::fill(stripe, l, n, n, lost, equations);
+    let count = gf2::size(lost);
+    Rebuilt::Disks(count)
 }
 
 // The rebuilder, on the columns of an accepted card.
@@ -41,14 +63,19 @@ fn rebuild_columns(
 ) -> Rebuilt
     requires { ⌜ (1 ≤ k) × (k ≤ 16) × (m ≤ 16) × (2 * m ≤ length (now columns)) ⌝ }
     requires { ⌜ ((j : ℕ) → j < m → field (2 * j) 2 (now columns) < 2 ^ k) ⌝ }
-    ensures { λ r. ⌜ rebuiltReport r ≡ tested (code k m (columnsIn m (now (columns .entry)))) l lost (now (stripe .entry)) ⌝ }
+    ensures { λ r. ⌜ rebuiltReport r ≡ rebuildTests (code k m (columnsIn m (now (columns .entry)))) l lost (now (stripe .entry)) ⌝ }
     ensures { λ r. ⌜ now (stripe .exit) ≡ unlessRefused (rebuiltReport r) (restored (code k m (columnsIn m (now (columns .entry)))) l lost (now (stripe .entry)) (agreeing (code k m (columnsIn m (now (columns .entry)))) l lost (now (stripe .entry)))) (now (stripe .entry)) ⌝ }
 {
-    let answer = decision::decide(columns, k, m, l, lost, stripe);
-    if decision::accepts(answer) {
-        restore(columns, k, m, l, lost, stripe);
+    if !card::length_ok(l) {
+        return Rebuilt::StripLength;
     }
-    answer
+    if !gf2::below(lost, (k + m) as u32) {
+        return Rebuilt::OutsideSet;
+    }
+    if stripe.len() != (k + m) * l {
+        return Rebuilt::StripeLength;
+    }
+    restore(columns, k, m, l, lost, stripe)
 }
 
 // The rebuilder: the lost strips become those of the only content that agrees with the survivors.

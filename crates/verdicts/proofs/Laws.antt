@@ -1,44 +1,45 @@
--- What is left inside a set decides, and the reports of the verdict.
+-- The verdict's report at each way out, and for a good card and a bad one.
 -- Assumes nothing.
-use mathlib.Core.Path.{_≡_, refl, sym, ap, ap₂, _∙_}
-use mathlib.Core.Bool.{Bool, not}
+use mathlib.Core.Path.{_≡_, sym}
+use mathlib.Core.Bool.{true, false}
 use mathlib.Core.List.{List, [], _∷_}
+use mathlib.Core.Logic.{_≢_}
 use Prim.Native.Nat.{ℕ, _+_, _^_}
-use native.Mathlib.Omega.{arith}
-use lib.Dec.{eqb, ltb}
-use lib.ListN.{length, drop}
-use Rattle.gf2.specs.If.{if_then_else_}
+use lib.Dec.{ltb}
+use lib.ListN.{drop}
+use Rattle.gf2.specs.Sets.{union}
 use Rattle.gf2.specs.Within.{within}
-use Rattle.gf2.proofs.Tests.{T-ext, neqb-in, neqb-out}
-use Rattle.flat.specs.Cards.{Code, code, disks, setOk, columnsIn}
+use Rattle.gf2.proofs.Tests.{T-true, T-false}
+use Rattle.flat.specs.Cards.{code, disks, setOk, columnsIn}
 use Rattle.flat.specs.Erasures.{fatal}
-use Rattle.flat.specs.Faults.{accepted, refused, yesNo, cardReport, verdictReport}
 use Rattle.flat.specs.Spans.{rows}
-use Rattle.flat.proofs.Fatal.{fatal-left}
+use Rattle.flat.specs.Faults.{accepted, refused, yesNo, cardReport, verdictTests, verdictReport}
+use Rattle.repairs.proofs.Callers.{undetermined-fatal}
 use Rattle.card.specs.declared.CardFault.{CardFault}
 use Rattle.card.specs.declared.CardCheck.the-variants.{Bad}
 use Rattle.card.specs.Reports.{faultReport, checkReport}
 use Rattle.card.proofs.Callers.{GoodCard, good-with, bad-card}
 
-empty : (l : List ℕ) → length l ≡ 0 → l ≡ []
-empty [] e = refl
-empty (x ∷ l) e = absurd (omega arith)
+module _ (k m : ℕ) (columns : List ℕ) (S : ℕ) where
+  pub outside : ltb S (2 ^ (k + m)) ≡ false → refused 8 [] ≡ verdictTests (code k m columns) S
+  unfolding verdictTests setOk disks
+  outside e = simp e
 
--- a set is fatal where a row is left
-pub left-fatal : (C : Code) (S : ℕ) (l : List ℕ) (n : ℕ) → length l ≡ n → l ≡ within S (rows C) → not (eqb n 0) ≡ fatal C S
-left-fatal C S l n len e =
-    T-ext (λ t. fatal-left C S .1 (λ z. neqb-out n 0 t (sym len ∙ ap length (e ∙ z))))
-    (λ t. neqb-in (λ z. fatal-left C S .0 t (sym e ∙ empty l (len ∙ z))))
+  module _ (inside : ltb S (2 ^ (k + m)) ≡ true) (bs : List ℕ) (r : ℕ) (is : bs ≡ rows (code k m columns)) (e : r ≡ union (within S bs)) where
+    pub yes-report : r ≢ 0 → accepted (1 ∷ []) ≡ verdictTests (code k m columns) S
+    unfolding verdictTests setOk disks yesNo
+    yes-report f =
+        let C = code k m columns in simp (inside, T-true {b = fatal C S} (undetermined-fatal C S bs r is e .1 f))
 
--- the verdict on a good card, by its two tests
-pub verdict-good : (card : List ℕ) (k m S : ℕ) (inside bad : Bool) → GoodCard card k m → inside ≡ ltb S (2 ^ (k + m))
-    → bad ≡ fatal (code k m (columnsIn m (drop 2 card))) S
-    → (if not inside then refused 8 [] else accepted (yesNo bad ∷ [])) ≡ verdictReport card S
-unfolding verdictReport setOk disks
-verdict-good card k m S inside bad g e f =
-    ap₂ (λ (a b : Bool). if not a then refused 8 [] else accepted (yesNo b ∷ [])) e f
-    ∙ sym (good-with card k m (λ C. if not (setOk C S) then refused 8 [] else accepted (yesNo (fatal C S) ∷ [])) g)
+    pub no-report : r ≡ 0 → accepted (0 ∷ []) ≡ verdictTests (code k m columns) S
+    unfolding verdictTests setOk disks yesNo
+    no-report z =
+        let C = code k m columns in simp (inside, T-false {b = fatal C S} (λ t. undetermined-fatal C S bs r is e .0 t z))
 
-pub verdict-bad : (card : List ℕ) (S : ℕ) (f : CardFault) → checkReport (Bad f) ≡ cardReport card → faultReport f ≡ verdictReport card S
+pub good-report : (card : List ℕ) (k m S : ℕ) → GoodCard card k m → verdictTests (code k m (columnsIn m (drop 2 card))) S ≡ verdictReport card S
 unfolding verdictReport
-verdict-bad card S f e = sym (bad-card card f (λ C. if not (setOk C S) then refused 8 [] else accepted (yesNo (fatal C S) ∷ [])) e)
+good-report card k m S g = sym (good-with card k m (λ C. verdictTests C S) g)
+
+pub bad-report : (card : List ℕ) (S : ℕ) (f : CardFault) → checkReport (Bad f) ≡ cardReport card → faultReport f ≡ verdictReport card S
+unfolding verdictReport
+bad-report card S f e = sym (bad-card card f (λ C. verdictTests C S) e)

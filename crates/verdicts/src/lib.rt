@@ -6,8 +6,7 @@ ghost use mathlib.Core.Path.{_≡_};
 ghost use Prim.Native.Nat.{_*_, _≤_};
 ghost use lib.ListN.{length};
 ghost use Rattle.flat.specs.Cards.{code, columnsIn};
-ghost use Rattle.flat.specs.Erasures.{fatal};
-ghost use Rattle.flat.specs.Faults.{verdictReport as verdictOf};
+ghost use Rattle.flat.specs.Faults.{verdictTests, verdictReport as verdictOf};
 ghost use Rattle.verdicts.specs.Reports.{verdictReport};
 use card::CardCheck;
 use card::CardFault;
@@ -20,13 +19,18 @@ pub enum SetVerdict {
     OutsideSet,
 }
 
-// Whether a row is left inside the set.
-fn fatal(columns: &[u8], k: usize, m: usize, set: u32) -> bool
+// The verdict, on the columns of an accepted card: a set is fatal where some disk stays undetermined.
+fn verdict_columns(columns: &[u8], k: usize, m: usize, set: u32) -> SetVerdict
     requires { ⌜ (k ≤ 16) × (m ≤ 16) × (2 * m ≤ length (now columns)) ⌝ }
-    ensures { λ r. ⌜ r ≡ fatal (code k m (columnsIn m (now (columns .entry)))) set ⌝ }
+    ensures { λ r. ⌜ verdictReport r ≡ verdictTests (code k m (columnsIn m (now (columns .entry)))) set ⌝ }
 {
-    let left = gf2::within(bases::rows(columns, k, m), set);
-    left.count != 0
+    if !gf2::below(set, (k + m) as u32) {
+        return SetVerdict::OutsideSet;
+    }
+    if repairs::undetermined(bases::rows(columns, k, m), set) != 0 {
+        return SetVerdict::Fatal;
+    }
+    SetVerdict::Recoverable
 }
 
 // The verdict call: whether the loss of the set is fatal.
@@ -35,14 +39,6 @@ pub fn verdict(card: &[u8], set: u32) -> SetVerdict
 {
     match card::check(card) {
         CardCheck::Bad(fault) => SetVerdict::Card(fault),
-        CardCheck::Good { k, m } => {
-            if !gf2::below(set, (k + m) as u32) {
-                return SetVerdict::OutsideSet;
-            }
-            if fatal(&card[2..], k, m, set) {
-                return SetVerdict::Fatal;
-            }
-            SetVerdict::Recoverable
-        }
+        CardCheck::Good { k, m } => verdict_columns(&card[2..], k, m, set),
     }
 }

@@ -18,7 +18,7 @@ use Rattle.worked.specs.Table.{Rebuilt, C1, C8, C9, C10}
 use Rattle.worked.specs.Worked.{Rebuilds}
 use Rattle.flat.specs.Demand3.{Agreeing, RightRebuild}
 use Rattle.flat.proofs.Reports.{unless-accepted, unless-refused}
-use Rattle.flat.proofs.Agreement.{some-agreeing, restored-filled}
+use Rattle.flat.proofs.Agreement.{some-agreeing, all-restored-filled}
 use Rattle.flat.proofs.Consistency.{agreeing-consistent}
 use Rattle.flat.proofs.Demanded.{right-rebuild}
 
@@ -82,7 +82,7 @@ module _ (a b c : ℕ) where
   c8-stripe =
       let C = codeOf card in
       unless-accepted (rebuildReport card 1 7 stripe) (3 ∷ []) (restored C 1 7 stripe (agreeing C 1 7 stripe)) stripe c8-answer
-      ∙ restored-filled C 1 7 stripe seven not-fatal (some-agreeing C 1 7 stripe content content-agrees) ∙ computed
+      ∙ all-restored-filled C 1 7 stripe seven not-fatal (some-agreeing C 1 7 stripe content content-agrees) ∙ computed
 
 -- ---- C9
 

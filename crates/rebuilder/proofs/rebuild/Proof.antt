@@ -10,7 +10,7 @@ use Rattle.flat.specs.Faults.{rebuildReport}
 use Rattle.card.specs.Reports.{checkReport}
 use Rattle.card.proofs.Laws.{rest}
 use Rattle.card.proofs.Callers.{GoodCard, good}
-use Rattle.decision.specs.Reports.{rebuiltReport}
+use Rattle.rebuilder.specs.Reports.{rebuiltReport}
 use Rattle.rebuilder.proofs.Answered.{good-report, good-stripe, bad-report, bad-stripe}
 use Rattle.rebuilder.proofs.rebuild.Statement.{statement}
 use Rattle.rebuilder.proofs.rebuild.Tie as tie

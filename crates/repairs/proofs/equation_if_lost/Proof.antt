@@ -11,15 +11,15 @@ cast-has c = search needs
 has-requires : tie.Need-has-requires
 has-requires c κs = search needs
 
-equation-among-requires : tie.Need-equation-among-requires
-equation-among-requires c κs = search needs
+equation-in-requires : tie.Need-equation-in-requires
+equation-in-requires c κs = search needs
 
 returns : tie.Need-returns
-returns c = rw (sym (c .before .before .has .ensures) ∙ c .before .if1 .taken) (c .equation-among .ensures)
+returns c = rw (sym (c .before .before .has .ensures) ∙ c .before .if1 .taken) (c .equation-in .ensures)
 
 returns-2 : tie.Need-returns-2
 returns-2 c = rw (sym (c .before .has .ensures) ∙ c .if1 .left)
 
 pub equation-if-lost-spec : {M : Type 1} → statement M
 equation-if-lost-spec =
-    tie.close (tie.spec cast-has has-requires equation-among-requires returns returns-2)
+    tie.close (tie.spec cast-has has-requires equation-in-requires returns returns-2)

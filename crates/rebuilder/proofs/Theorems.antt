@@ -6,10 +6,10 @@ use lib.ListN.{getD}
 use Rattle.gf2.specs.If.{if_then_else_}
 use Rattle.flat.specs.Faults.{Report}
 use Rattle.card.proofs.Theorems.{carried, carried-back}
-use Rattle.decision.specs.declared.Rebuilt.{Rebuilt}
-use Rattle.decision.specs.declared.Rebuilt.the-variants as rebuilt
-use Rattle.decision.specs.Reports.{rebuiltReport}
-use Rattle.decision.specs.Theorems.{RebuiltInjective}
+use Rattle.rebuilder.specs.declared.Rebuilt.{Rebuilt}
+use Rattle.rebuilder.specs.declared.Rebuilt.the-variants as rebuilt
+use Rattle.rebuilder.specs.Reports.{rebuiltReport}
+use Rattle.rebuilder.specs.Theorems.{RebuiltInjective}
 
 abbrev rebuiltFrom : Report → Rebuilt
 rebuiltFrom r =

@@ -1,4 +1,4 @@
--- `repairs::equation_among` meets its contract: the code's shift of 1 is the disk's set.
+-- `repairs::equation_in` meets its contract: the code's shift of 1 is the disk's set.
 -- Assumes nothing.
 use mathlib.Core.Path.{ap, ap₂, _∙_}
 use Prim.Native.Nat.{ℕ}
@@ -8,9 +8,9 @@ use borrow.Author.Needs.{needs}
 use Rattle.gf2.specs.Sets.{_⊕_, _∖_}
 use Rattle.gf2.specs.Within.{within}
 use Rattle.gf2.proofs.Bits.{one-shifted}
-use Rattle.flat.specs.Repairs.{holder}
-use Rattle.repairs.proofs.equation_among.Statement.{statement}
-use Rattle.repairs.proofs.equation_among.Tie as tie
+use Rattle.flat.specs.Repairs.{holder, equationIn}
+use Rattle.repairs.proofs.equation_in.Statement.{statement}
+use Rattle.repairs.proofs.equation_in.Tie as tie
 
 cast-disk : tie.Need-cast-disk
 cast-disk c = search needs
@@ -28,7 +28,7 @@ outside-requires : tie.Need-outside-requires
 outside-requires c κs = search needs
 
 returns : tie.Need-returns
-unfolding _⊕_
+unfolding _⊕_ equationIn
 returns c =
     let a = c .before .before .before .args in
     let disk = one-shifted (a .d) (c .before .before .before .pre .1) in
@@ -39,7 +39,7 @@ returns c =
     (c .before .before .within .ensures .1 ∙ ap (λ (e : ℕ). within (bitXor (a .left) e) (take (a .checks .count) (a .checks .rows))) disk))
     disk
 
-pub equation-among-spec : {M : Type 1} → statement M
-equation-among-spec =
+pub equation-in-spec : {M : Type 1} → statement M
+equation-in-spec =
     tie.close
     (tie.spec cast-disk shl-disk within-requires holder-requires outside-requires returns)

@@ -3,8 +3,8 @@
 use mathlib.Core.List.{[], _∷_}
 use Rattle.flat.specs.Faults.{Report, accepted, refused}
 use Rattle.card.specs.Reports.{faultReport}
-use Rattle.decision.specs.declared.Rebuilt.{Rebuilt}
-use Rattle.decision.specs.declared.Rebuilt.the-variants as rebuilt
+use Rattle.rebuilder.specs.declared.Rebuilt.{Rebuilt}
+use Rattle.rebuilder.specs.declared.Rebuilt.the-variants as rebuilt
 
 -- the rebuilder
 abbrev pub rebuiltReport : Rebuilt → Report

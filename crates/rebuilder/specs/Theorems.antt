@@ -2,8 +2,8 @@
 -- The proofs are those of proofs/Theorems.antt.
 -- Assumes nothing.
 use mathlib.Core.Path.{_≡_}
-use Rattle.decision.specs.declared.Rebuilt.{Rebuilt}
-use Rattle.decision.specs.Reports.{rebuiltReport}
+use Rattle.rebuilder.specs.declared.Rebuilt.{Rebuilt}
+use Rattle.rebuilder.specs.Reports.{rebuiltReport}
 
 abbrev pub RebuiltInjective : Type 0
 RebuiltInjective = (a b : Rebuilt) → rebuiltReport a ≡ rebuiltReport b → a ≡ b

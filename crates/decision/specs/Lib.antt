@@ -1,3 +1,0 @@
-pub mod Reports
-pub mod Tests
-pub mod Theorems
