@@ -34,7 +34,7 @@ module _ {A : Type 0} where
   unfolding unlessRefused
   unless-number r new old e = rw e
 
-  unless-not : (r : Report) (new old : A) → r .number ≢ 0 → unlessRefused r new old ≡ old
+  pub unless-not : (r : Report) (new old : A) → r .number ≢ 0 → unlessRefused r new old ≡ old
   unfolding unlessRefused
   unless-not r new old f = rw (T-false {b = eqb (r .number) 0} (λ t. f (eqb-out (r .number) 0 t)))
 

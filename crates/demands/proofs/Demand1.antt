@@ -1,0 +1,17 @@
+-- Demand 1: every buffer at exit is `unlessRefused` of the call's report.
+-- Assumes nothing.
+use lib.ListN.{length}
+use Rattle.flat.specs.Faults.{cardWriteReport, cardWriteBuffer, encodeReport, encodeStripe, erasuresReport, erasuresSlice, equationsReport, equationsSlice, rebuildReport, rebuildStripe}
+use Rattle.flat.proofs.Reports.{unless-not}
+use Rattle.demands.specs.Demand1.{Demand1}
+
+pub demand1 : Demand1
+unfolding cardWriteBuffer encodeStripe erasuresSlice equationsSlice rebuildStripe
+demand1 = record {
+  card-writer = λ C buffer. unless-not (cardWriteReport C (length buffer)) _ buffer;
+  encoder = λ card L stripe. unless-not (encodeReport card L (length stripe)) _ stripe;
+  lister = λ card slice. unless-not (erasuresReport card (length slice)) _ slice;
+  equations = λ card d slice. unless-not (equationsReport card d (length slice)) _ slice;
+  rebuilder = λ card L S stripe. unless-not (rebuildReport card L S stripe) _ stripe;
+  arrays = unless-not;
+}

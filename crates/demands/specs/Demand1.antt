@@ -1,0 +1,26 @@
+-- Demand 1: a refused call changes no lent byte. One statement, with the definitions that the public contracts cite: what they say a buffer
+-- is at exit is what it was at entry, for each call that is lent one.
+-- The rest of the demand is in every function's own proof: nothing makes it run on, reach outside its buffers or compute a wrapped number.
+-- Each refusal's number is in the report that its contract cites.
+-- The proof is `demand1` of proofs/Demand1.antt.
+-- Assumes nothing.
+use mathlib.Core.Path.{_≡_}
+use mathlib.Core.Logic.{_≢_}
+use mathlib.Core.List.{List}
+use Prim.Native.Nat.{ℕ}
+use lib.ListN.{length}
+use Rattle.flat.specs.Cards.{Code}
+use Rattle.flat.specs.Faults.{Report, unlessRefused, cardWriteReport, cardWriteBuffer, encodeReport, encodeStripe, erasuresReport, erasuresSlice, equationsReport, equationsSlice, rebuildReport, rebuildStripe}
+
+-- the call is refused
+abbrev pub Refused : Report → Type 0
+Refused r = r .number ≢ 0
+
+pub record Demand1 : Type 0 where
+  pub card-writer : (C : Code) (buffer : List ℕ) → Refused (cardWriteReport C (length buffer)) → cardWriteBuffer C buffer ≡ buffer
+  pub encoder : (card : List ℕ) (L : ℕ) (stripe : List ℕ) → Refused (encodeReport card L (length stripe)) → encodeStripe card L stripe ≡ stripe
+  pub lister : (card slice : List ℕ) → Refused (erasuresReport card (length slice)) → erasuresSlice card slice ≡ slice
+  pub equations : (card : List ℕ) (d : ℕ) (slice : List ℕ) → Refused (equationsReport card d (length slice)) → equationsSlice card d slice ≡ slice
+  pub rebuilder : (card : List ℕ) (L S : ℕ) (stripe : List ℕ) → Refused (rebuildReport card L S stripe) → rebuildStripe card L S stripe ≡ stripe
+  -- the arrays that a caller in C lends: each is, at exit, `unlessRefused` of the call's report, of what it is filled with, and of what it was
+  pub arrays : (r : Report) (new old : List ℕ) → Refused r → unlessRefused r new old ≡ old
