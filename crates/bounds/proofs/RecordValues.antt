@@ -10,7 +10,7 @@ use Rattle.gf2.specs.If.{if_then_else_}
 use Rattle.gf2.specs.Sets.{has}
 use Rattle.flat.specs.Cards.{Code, codeOf, disks, setOk, cardLength}
 use Rattle.flat.specs.Strips.{lengthOk}
-use Rattle.flat.specs.Faults.{Report, refused}
+use Rattle.flat.specs.Faults.{Report, refused, stripeTests}
 use Rattle.flat.proofs.Lengths.{length-in}
 use Rattle.record_format.specs.Records.{entryCount, bodiesAt, stripsAt, recordLength, lengthIn, entryCountIn, bodyIn, markOk, entriesOk, cardEntryOk, lostIn, stripEntriesOk}
 use Rattle.record_format.specs.Faults.{recordWriteTests, recordWriteReport, stripsReport, withRecord, readReport, recordReport, bodyTests, bodyReport}
@@ -19,7 +19,7 @@ use Rattle.bounds.specs.Coded.{Fits}
 use Rattle.bounds.proofs.Values.{plain, named, pick, test, with-fits}
 
 pub record-write-fits : (card : List ℕ) (L S n p : ℕ) → Fits (recordWriteReport card L S n p)
-unfolding recordWriteReport recordWriteTests recordLength stripsAt bodiesAt entryCount cardLength disks
+unfolding recordWriteReport recordWriteTests stripeTests recordLength stripsAt bodiesAt entryCount cardLength disks
 record-write-fits card L S n p =
     let C = codeOf card in
     with-fits card (λ C. recordWriteTests C L S n p)

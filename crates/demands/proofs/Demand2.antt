@@ -3,12 +3,11 @@
 use mathlib.Core.Path.{_≡_, sym, ap, _∙_}
 use mathlib.Core.Bool.{not}
 use mathlib.Core.List.{List, []}
-use Prim.Native.Nat.{ℕ, _+_, _*_, _<_}
+use Prim.Native.Nat.{ℕ, _+_, _*_}
 use native.Mathlib.Omega.{arith}
 use borrow.Author.Tests.{eqb-true, not-false}
 use lib.Dec.{eqb}
 use lib.ListN.{length, take}
-use Rattle.gf2.specs.Sets.{over}
 use Rattle.gf2.proofs.Sums.{over-cong}
 use Rattle.flat.specs.Cards.{Code, codeOf, disks, column}
 use Rattle.flat.specs.Strips.{lengthOk, byteOf, given, encoded}
@@ -17,7 +16,8 @@ use Rattle.flat.proofs.Lists.{length-tabulate}
 use Rattle.flat.proofs.Reports.{passed, with-out, unless-accepted}
 use Rattle.flat.proofs.Positions.{byte-take, given-byte}
 use Rattle.flat.proofs.Words.{holds-data, holds-parity}
-use Rattle.flat.proofs.Theorems as proved
+use Rattle.flat.proofs.Theorems.{card-reads-back, card-writes-back}
+use Rattle.record_format.proofs.Theorems.{records-read-back, records-write-back}
 use Rattle.demands.specs.Demand2.{Demand2, Encoded}
 
 module _ (card : List ℕ) (L : ℕ) (stripe : List ℕ) (ok : encodeReport card L (length stripe) ≡ accepted []) where
@@ -53,6 +53,8 @@ module _ (card : List ℕ) (L : ℕ) (stripe : List ℕ) (ok : encodeReport card
 pub demand2 : Demand2
 demand2 = record {
   encoder = encoded-right;
-  cards-back = proved.card-reads-back;
-  cards-only = proved.card-writes-back;
+  cards-back = card-reads-back;
+  records-back = records-read-back;
+  cards-only = card-writes-back;
+  records-only = records-write-back;
 }

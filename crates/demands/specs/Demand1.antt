@@ -11,6 +11,7 @@ use Prim.Native.Nat.{ℕ}
 use lib.ListN.{length}
 use Rattle.flat.specs.Cards.{Code}
 use Rattle.flat.specs.Faults.{Report, unlessRefused, cardWriteReport, cardWriteBuffer, encodeReport, encodeStripe, erasuresReport, erasuresSlice, equationsReport, equationsSlice, rebuildReport, rebuildStripe}
+use Rattle.record_format.specs.Faults.{recordWriteReport, recordWriteOutput}
 
 -- the call is refused
 abbrev pub Refused : Report → Type 0
@@ -22,5 +23,7 @@ pub record Demand1 : Type 0 where
   pub lister : (card slice : List ℕ) → Refused (erasuresReport card (length slice)) → erasuresSlice card slice ≡ slice
   pub equations : (card : List ℕ) (d : ℕ) (slice : List ℕ) → Refused (equationsReport card d (length slice)) → equationsSlice card d slice ≡ slice
   pub rebuilder : (card : List ℕ) (L S : ℕ) (stripe : List ℕ) → Refused (rebuildReport card L S stripe) → rebuildStripe card L S stripe ≡ stripe
+  pub record-writer : (card : List ℕ) (L S : ℕ) (stripe output : List ℕ) → Refused (recordWriteReport card L S (length stripe) (length output))
+      → recordWriteOutput card L S stripe output ≡ output
   -- the arrays that a caller in C lends: each is, at exit, `unlessRefused` of the call's report, of what it is filled with, and of what it was
   pub arrays : (r : Report) (new old : List ℕ) → Refused r → unlessRefused r new old ≡ old

@@ -11,6 +11,7 @@ use Rattle.flat.specs.Cards.{codeOf, column}
 use Rattle.flat.specs.Strips.{byteOf}
 use Rattle.flat.specs.Faults.{accepted, encodeReport, encodeStripe}
 use Rattle.flat.specs.Theorems.{CardReadsBack, CardWritesBack}
+use Rattle.record_format.specs.Theorems.{RecordReadsBack, RecordWritesBack}
 
 -- what an accepted call of the encoder leaves in the stripe
 pub record Encoded (card : List ℕ) (L : ℕ) (stripe : List ℕ) : Type 0 where
@@ -24,5 +25,9 @@ pub record Encoded (card : List ℕ) (L : ℕ) (stripe : List ℕ) : Type 0 wher
 
 pub record Demand2 : Type 0 where
   pub encoder : (card : List ℕ) (L : ℕ) (stripe : List ℕ) → encodeReport card L (length stripe) ≡ accepted [] → Encoded card L stripe
+  -- what is read back after writing is what was written
   pub cards-back : CardReadsBack
+  pub records-back : RecordReadsBack
+  -- and the reader accepts only what the writer can write
   pub cards-only : CardWritesBack
+  pub records-only : RecordWritesBack

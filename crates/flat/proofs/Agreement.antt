@@ -18,10 +18,9 @@ use Rattle.flat.specs.Lists.{every, tabulate}
 use Rattle.flat.specs.Cards.{Code, disks}
 use Rattle.flat.specs.Strips.{byteOf, holds, given}
 use Rattle.flat.specs.Erasures.{survivors, undeterminedSet, determinedSet}
-use Rattle.flat.specs.Rebuilding.{agrees, contents, agreeing, restored}
+use Rattle.flat.specs.Rebuilding.{Agreeing, agrees, contents, agreeing, restored}
 use Rattle.flat.specs.Repairs.{filled, equationAmong}
 use Rattle.flat.specs.Rebuilt.{OneStrip, OnlyContent, RestoredFilled, AllRestoredFilled}
-use Rattle.flat.specs.Demand3.{Agreeing}
 use Rattle.flat.proofs.Lists.{tabulate-cong}
 use Rattle.flat.proofs.Quantifiers.{every-in, every-out}
 use Rattle.flat.proofs.Words.{holds-data}

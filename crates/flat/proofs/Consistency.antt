@@ -1,7 +1,7 @@
 -- Some content agrees with the survivors exactly where the check words among them vanish.
 -- Assumes nothing.
 use mathlib.Core.Path.{_≡_, sym, ap, _∙_}
-use mathlib.Core.Logic.{_⊎_, inl, inr, _≢_, ⊎-elim}
+use mathlib.Core.Logic.{inl, inr, _≢_, ⊎-elim}
 use mathlib.Core.List.{List, [], _∷_}
 use Prim.Native.Nat.{ℕ, zero, suc, _+_, _*_, _/_, _%_, _^_, _<_}
 use native.Mathlib.Nat.{mod-lt, mod-eq-of-lt}
@@ -20,10 +20,9 @@ use Rattle.flat.specs.Cards.{Code, disks}
 use Rattle.flat.specs.Strips.{byteOf}
 use Rattle.flat.specs.Erasures.{survivors}
 use Rattle.flat.specs.Spans.{checks}
-use Rattle.flat.specs.Rebuilding.{agreeing}
+use Rattle.flat.specs.Rebuilding.{Agreeing, agreeing}
 use Rattle.flat.specs.Repairs.{vanishes, allVanish, consistent}
 use Rattle.flat.specs.Rebuilt.{ConsistentAgrees}
-use Rattle.flat.specs.Demand3.{Agreeing}
 use Rattle.flat.proofs.Lists.{length-tabulate}
 use Rattle.flat.proofs.Quantifiers.{every-in, every-out}
 use Rattle.flat.proofs.Words.{holds-cong}

@@ -29,5 +29,4 @@ pub mod Solving
 pub mod Consistency
 pub mod Tested
 pub mod Rebuilds
-pub mod Demanded
 pub mod Theorems

@@ -1,11 +1,10 @@
--- The proofs of the statements of specs/Theorems.antt, specs/Rebuilt.antt and specs/Demand3.antt.
+-- The proofs of the statements of specs/Theorems.antt and specs/Rebuilt.antt.
 -- Assumes nothing.
 use native.Mathlib.Omega.{arith}
 use Rattle.gf2.proofs.Sizes.{one-left-size}
 use Rattle.flat.specs.Cards.{disks}
 use Rattle.flat.specs.Theorems
 use Rattle.flat.specs.Rebuilt
-use Rattle.flat.specs.Demand3
 use Rattle.flat.specs.Spans.{rows, checks}
 use Rattle.flat.specs.Erasures.{erasures}
 use Rattle.flat.specs.Equations.{equations}
@@ -25,7 +24,6 @@ use Rattle.flat.proofs.Positions as positions
 use Rattle.flat.proofs.Agreement as agreement
 use Rattle.flat.proofs.Consistency as consistency
 use Rattle.flat.proofs.Rebuilds as rebuilds
-use Rattle.flat.proofs.Demanded as demanded
 
 pub card-reads-back : Theorems.CardReadsBack
 card-reads-back = round.reads-back
@@ -149,6 +147,3 @@ only-content = agreement.only-content
 
 pub lost-bytes-unread : Rebuilt.LostBytesUnread
 lost-bytes-unread = rebuilds.lost-bytes-unread
-
-pub demand3 : Demand3.Demand3
-demand3 = demanded.demand3

@@ -10,4 +10,3 @@ pub mod Spans
 pub mod Repairs
 pub mod Theorems
 pub mod Rebuilt
-pub mod Demand3

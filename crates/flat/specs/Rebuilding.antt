@@ -1,14 +1,15 @@
 -- Document 01, "Rebuilding".
 -- A data content is a list of k * L bytes: the k data strips.
 -- Assumes nothing.
+use mathlib.Core.Path.{_≡_}
 use mathlib.Core.Bool.{Bool, _||_}
 use mathlib.Core.List.{List, [], _∷_, map}
 use Prim.Native.Nat.{ℕ, zero, suc, _*_, _/_}
-use lib.Dec.{eqb}
-use lib.ListN.{getD}
+use lib.Dec.{T, eqb}
+use lib.ListN.{length, getD}
 use Rattle.gf2.specs.If.{if_then_else_}
 use Rattle.gf2.specs.Sets.{has}
-use Rattle.flat.specs.Lists.{every, range, tabulate, filter, each}
+use Rattle.flat.specs.Lists.{every, range, tabulate, filter, each, Bytes}
 use Rattle.flat.specs.Cards.{Code, disks}
 use Rattle.flat.specs.Strips.{byteOf, given}
 
@@ -17,6 +18,12 @@ unfoldable pub agrees : Code → ℕ → ℕ → List ℕ → List ℕ → Bool
 unfolding every disks has byteOf given
 agrees C L S stripe content =
     every (disks C) (λ i. has S i || every L (λ t. eqb (byteOf L (given C L content) t i) (byteOf L stripe t i)))
+
+-- a data content, k strips of L bytes, that agrees with the survivors
+pub record Agreeing (C : Code) (L S : ℕ) (stripe content : List ℕ) : Type 0 where
+  pub strips : length content ≡ C .k * L
+  pub bytes : Bytes content
+  pub agree : T (agrees C L S stripe content)
 
 -- every list of N bytes
 unfoldable pub contents : ℕ → List (List ℕ)

@@ -1,13 +1,13 @@
 -- What is known of a call that the record writer accepts, and what is read from the record that it writes.
 -- Assumes nothing.
 use mathlib.Core.Path.{_≡_, sym, ap, _∙_, subst}
-use mathlib.Core.Bool.{true, not}
+use mathlib.Core.Bool.{true}
 use mathlib.Core.List.{List, [], _∷_}
 use Prim.Native.Nat.{ℕ, _*_, _≤_, _<_}
 use native.Mathlib.Nat.{le-refl}
 use native.Mathlib.Omega.{arith}
-use borrow.Author.Tests.{eqb-true, eq-eqb, le-ltb, ltb-false, not-false}
-use lib.Dec.{T, eqb, ltb}
+use borrow.Author.Tests.{le-ltb, ltb-false}
+use lib.Dec.{T, ltb}
 use lib.ListN.{length, getD, take, drop}
 use Rattle.gf2.specs.Sets.{has}
 use Rattle.gf2.proofs.Tests.{if-false}
@@ -15,6 +15,7 @@ use Rattle.flat.specs.Lists.{padded}
 use Rattle.flat.specs.Cards.{Code, disks, setOk, codeOf, cardLength}
 use Rattle.flat.specs.Strips.{lengthOk}
 use Rattle.flat.specs.Faults.{Report, accepted, refused, cardReport, cardColumns}
+use Rattle.flat.proofs.Tested.{Passed, tests-past, tests-passed as passes}
 use Rattle.flat.proofs.Reports.{passed-number, unless-accepted, with-accepted, with-out}
 use Rattle.flat.proofs.Cards.{accepted-card, card-accepted}
 use Rattle.record_format.specs.Records.{stripsAt, bodyAt, recordLength, stripBody, recordBytes, bodyIn}
@@ -27,26 +28,17 @@ use Rattle.record_format.proofs.Bodies.{body-accepted, body-lost, body-
 
 -- what the writer's tests tell of a code that passes them
 pub record Recordable (C : Code) (L S n p : ℕ) : Type 0 where
-  pub length-ok : lengthOk L ≡ true
-  pub set-ok : setOk C S ≡ true
-  pub stripe-size : n ≡ disks C * L
+  pub passed : Passed C L S n
   pub room : recordLength C L S ≤ p
   pub answer : recordWriteTests C L S n p ≡ accepted (recordLength C L S ∷ [])
 
-pub tests-passed : (C : Code) (L S n p : ℕ) → recordWriteTests C L S n p .number ≡ 0 → Recordable C L S n p
+pub record-passed : (C : Code) (L S n p : ℕ) → recordWriteTests C L S n p .number ≡ 0 → Recordable C L S n p
 unfolding recordWriteTests
-tests-passed C L S n p e =
-    let a = passed-number (not (lengthOk L)) 5 [] _ e in
-    let b = passed-number (not (setOk C S)) 7 [] _ (a .1) in
-    let c = passed-number (not (eqb n (disks C * L))) 6 [] _ (b .1) in
-    let d = passed-number (ltb p (recordLength C L S)) 15 [] _ (c .1) in
-    record {
-      length-ok = not-false _ (a .0);
-      set-ok = not-false _ (b .0);
-      stripe-size = eqb-true n (disks C * L) (not-false _ (c .0));
-      room = ltb-false p (recordLength C L S) (d .0);
-      answer = a .2 ∙ b .2 ∙ c .2 ∙ d .2;
-    }
+record-passed C L S n p e =
+    let t = passes C L S n _ e in
+    let past = tests-past C L S n _ t in
+    let d = passed-number (ltb p (recordLength C L S)) 15 [] (accepted (recordLength C L S ∷ [])) (sym (ap (λ (r : Report). r .number) past) ∙ e) in
+    record { passed = t; room = ltb-false p (recordLength C L S) (d .0); answer = past ∙ d .2 }
 
 pub record-accepted : (card : List ℕ) (L S n p : ℕ) → cardReport card ≡ accepted (codeOf card .k ∷ codeOf card .m ∷ []) → lengthOk L ≡ true
     → setOk (codeOf card) S ≡ true → n ≡ disks (codeOf card) * L → recordLength (codeOf card) L S ≤ p
@@ -54,14 +46,14 @@ pub record-accepted : (card : List ℕ) (L S n p : ℕ) → cardReport card ≡ 
 unfolding recordWriteReport recordWriteTests
 record-accepted card L S n p c l s e h =
     with-accepted card (codeOf card .k ∷ codeOf card .m ∷ []) (λ C. recordWriteTests C L S n p) c
-    ∙ simp (l, s, eq-eqb n (disks (codeOf card) * L) e, le-ltb p (recordLength (codeOf card) L S) h)
+    ∙ tests-past (codeOf card) L S n _ (record { length-ok = l; set-ok = s; size = e }) ∙ simp (le-ltb p (recordLength (codeOf card) L S) h)
 
 pub recordable : (card : List ℕ) (L S n p len : ℕ) → recordWriteReport card L S n p ≡ accepted (len ∷ [])
     → (cardReport card ≡ accepted (codeOf card .k ∷ codeOf card .m ∷ [])) × Recordable (codeOf card) L S n p × (recordLength (codeOf card) L S ≡ len)
 unfolding recordWriteReport
 recordable card L S n p len e =
     let w = with-out card (len ∷ []) (λ C. recordWriteTests C L S n p) e in
-    let t = tests-passed (codeOf card) L S n p (ap (λ (r : Report). r .number) (w .1)) in
+    let t = record-passed (codeOf card) L S n p (ap (λ (r : Report). r .number) (w .1)) in
     (card-accepted card (w .0), t, ap (λ (r : Report). getD (r .values) 0 0) (sym (t .answer) ∙ w .1))
 
 -- what is read from the record of a stripe
@@ -81,7 +73,7 @@ module _ (card stripe : List ℕ) (L S n p : ℕ) (ok : cardReport card ≡ acce
   file = recordBytes card (disks C) L S stripe
 
   all : disks C * L ≤ length stripe
-  all = omega (arith, sized, w .stripe-size, le-refl (disks C * L))
+  all = omega (arith, sized, w .passed .size, le-refl (disks C * L))
 
   -- where the first strip's body goes
   at-start : stripsAt (disks C) (length card) ≡ stripsAt (disks C) (cardLength (C .m))
@@ -95,10 +87,10 @@ module _ (card stripe : List ℕ) (L S n p : ℕ) (ok : cardReport card ≡ acce
   laid = record-laid card (disks C) L S stripe all
 
   read : recordReport file ≡ accepted (C .k ∷ C .m ∷ L ∷ S ∷ [])
-  read = laid-read card L S stripe file ok (w .length-ok) (w .set-ok) record-length laid
+  read = laid-read card L S stripe file ok (w .passed .length-ok) (w .passed .set-ok) record-length laid
 
   card-there : bodyIn file 0 ≡ card
-  card-there = card-is card L S stripe file ok (w .length-ok) (w .set-ok) record-length laid
+  card-there = card-is card L S stripe file ok (w .passed .length-ok) (w .passed .set-ok) record-length laid
 
   columns : recordColumns file ≡ cardColumns card
   unfolding recordColumns cardColumns

@@ -3,28 +3,25 @@
 -- Assumes nothing.
 use mathlib.Core.Bool.{not}
 use mathlib.Core.List.{List, [], _∷_, _++_}
-use Prim.Native.Nat.{ℕ, suc, _*_}
+use Prim.Native.Nat.{ℕ, suc}
 use lib.Dec.{eqb, ltb}
 use lib.ListN.{length, drop}
 use Rattle.gf2.specs.If.{if_then_else_}
 use Rattle.gf2.specs.Sets.{has}
 use Rattle.flat.specs.Lists.{padded}
-use Rattle.flat.specs.Cards.{Code, disks, setOk, cardLength, codeOf}
+use Rattle.flat.specs.Cards.{Code, disks, cardLength, codeOf}
 use Rattle.flat.specs.Strips.{lengthOk}
-use Rattle.flat.specs.Faults.{Report, accepted, refused, unlessRefused, withCard}
+use Rattle.flat.specs.Faults.{Report, accepted, refused, unlessRefused, withCard, stripeTests}
 use Rattle.record_format.specs.Records.{entryCount, stripsAt, recordLength, recordBytes, lengthIn, entryCountIn, bodyIn, markOk, entriesOk, cardEntryOk, lostIn, stripEntriesOk}
 
 -- ---- the writer, for a stripe of n bytes and an output of p: T, and T bytes at the output's front
 
 -- its tests on a code
 unfoldable pub recordWriteTests : Code → ℕ → ℕ → ℕ → ℕ → Report
-unfolding lengthOk setOk disks recordLength
+unfolding stripeTests recordLength
 recordWriteTests C L S n p =
-    if not (lengthOk L) then refused 6 [] else
-    if not (setOk C S) then refused 8 [] else
-    if not (eqb n (disks C * L)) then refused 7 [] else
-    if ltb p (recordLength C L S) then refused 16 [] else
-    accepted (recordLength C L S ∷ [])
+    stripeTests C L S n
+    (if ltb p (recordLength C L S) then refused 16 [] else accepted (recordLength C L S ∷ []))
 
 unfoldable pub recordWriteReport : List ℕ → ℕ → ℕ → ℕ → ℕ → Report
 unfolding withCard recordWriteTests

@@ -7,18 +7,19 @@ use mathlib.Core.Logic.{_≢_}
 use mathlib.Core.List.{List, [], _∷_, _++_}
 use Prim.Native.Nat.{ℕ, _+_, _*_, _^_, _≤_, _<_}
 use native.Mathlib.Omega.{arith}
-use borrow.Author.Tests.{lt-ltb, le-ltb, eq-eqb, ne-eqb}
+use borrow.Author.Tests.{lt-ltb, le-ltb}
 use lib.Dec.{eqb, ltb}
 use lib.ListN.{length, drop}
 use Rattle.gf2.proofs.Tests.{true-T, eqb-out}
 use Rattle.flat.specs.Cards.{Code, code, codeOf, disks, setOk, cardLength}
 use Rattle.flat.specs.Strips.{lengthOk}
-use Rattle.flat.specs.Faults.{Report, accepted, refused, unlessRefused, cardReport}
+use Rattle.flat.specs.Faults.{Report, accepted, refused, unlessRefused, cardReport, stripeTests}
 use Rattle.flat.proofs.Reports.{unless-other}
+use Rattle.flat.proofs.Tested.{Passed, tests-length, tests-set, tests-size, tests-past}
 use Rattle.record_format.specs.Records.{stripsAt, bodyAt, recordLength, recordBytes}
 use Rattle.record_format.specs.Faults.{recordWriteTests, recordWriteReport, recordWriteOutput}
 use Rattle.record_format.proofs.Parts.{length-record}
-use Rattle.record_format.proofs.Written.{Recordable, tests-passed}
+use Rattle.record_format.proofs.Written.{Recordable, record-passed}
 use Rattle.card.specs.declared.CardFault.{CardFault}
 use Rattle.card.specs.declared.CardCheck.the-variants.{Bad}
 use Rattle.card.specs.Reports.{faultReport, checkReport}
@@ -31,40 +32,44 @@ use Rattle.flat.specs.Lists.{put}
 module _ (k m L S n p : ℕ) where
   pub written-length : lengthOk L ≡ false → refused 6 [] ≡ recordWriteTests (code k m []) L S n p
   unfolding recordWriteTests
-  written-length e = simp e
+  written-length e = tests-length (code k m []) L S n _ e
 
   module _ (el : lengthOk L ≡ true) where
     pub written-set : ltb S (2 ^ (k + m)) ≡ false → refused 8 [] ≡ recordWriteTests (code k m []) L S n p
     unfolding recordWriteTests setOk disks
-    written-set e = simp (el, e)
+    written-set e = tests-set (code k m []) L S n _ el e
 
     module _ (es : ltb S (2 ^ (k + m)) ≡ true) where
       pub written-stripe : n ≢ (k + m) * L → refused 7 [] ≡ recordWriteTests (code k m []) L S n p
       unfolding recordWriteTests setOk disks
-      written-stripe e = simp (el, es, ne-eqb n ((k + m) * L) e)
+      written-stripe e = tests-size (code k m []) L S n _ el es e
 
       module _ (en : n ≡ (k + m) * L) (t : ℕ) (et : t ≡ bodyAt (stripsAt (k + m) (cardLength m)) L S (k + m)) where
         long : t ≡ recordLength (code k m []) L S
         unfolding recordLength disks
         long = et
 
+        past : Passed (code k m []) L S n
+        unfolding setOk disks
+        past = record { length-ok = el; set-ok = es; size = en }
+
         pub written-short : p < t → refused 16 [] ≡ recordWriteTests (code k m []) L S n p
-        unfolding recordWriteTests setOk disks
-        written-short h = simp (el, es, eq-eqb n ((k + m) * L) en, sym long, lt-ltb p t h)
+        unfolding recordWriteTests
+        written-short h = sym (tests-past (code k m []) L S n _ past ∙ simp (sym long, lt-ltb p t h))
 
         pub written-good : t ≤ p → accepted (t ∷ []) ≡ recordWriteTests (code k m []) L S n p
-        unfolding recordWriteTests setOk disks
-        written-good h = simp (el, es, eq-eqb n ((k + m) * L) en, sym long, le-ltb p t h)
+        unfolding recordWriteTests
+        written-good h = sym (tests-past (code k m []) L S n _ past ∙ simp (sym long, le-ltb p t h))
 
 -- an accepted answer has passed the tests
 pub zero-passed : (C : Code) (L S n p : ℕ) (r : Report) → r ≡ recordWriteTests C L S n p → eqb (r .number) 0 ≡ true → Recordable C L S n p
 zero-passed C L S n p r e z =
-    tests-passed C L S n p (sym (ap (λ (x : Report). x .number) e) ∙ eqb-out (r .number) 0 (true-T {b = eqb (r .number) 0} z))
+    record-passed C L S n p (sym (ap (λ (x : Report). x .number) e) ∙ eqb-out (r .number) 0 (true-T {b = eqb (r .number) 0} z))
 
 -- ---- a good card and a bad one
 
 pub good-report : (card : List ℕ) (k m L S n p : ℕ) → GoodCard card k m → recordWriteReport card L S n p ≡ recordWriteTests (code k m []) L S n p
-unfolding recordWriteReport recordWriteTests recordLength setOk disks
+unfolding recordWriteReport recordWriteTests stripeTests recordLength setOk disks
 good-report card k m L S n p g = good-with card k m (λ C. recordWriteTests C L S n p) g
 
 pub bad-report : (card : List ℕ) (f : CardFault) (L S n p : ℕ) → checkReport (Bad f) ≡ cardReport card → faultReport f ≡ recordWriteReport card L S n p
@@ -93,7 +98,7 @@ module _ (card : List ℕ) (k m L S : ℕ) (stripe out : List ℕ) (g : GoodCard
       let long : 0 + length (recordBytes card (k + m) L S stripe) ≡ recordLength (codeOf card) L S =
       omega (
         arith,
-        length-record card (k + m) L S stripe (omega (arith, p .stripe-size)),
+        length-record card (k + m) L S stripe (omega (arith, p .passed .size)),
         room-asked card k m L S (g .size),
         ap (λ (C : Code). recordLength C L S) (g .is),
       ) in

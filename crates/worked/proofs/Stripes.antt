@@ -11,16 +11,16 @@ use Rattle.flat.specs.Lists.{Bytes}
 use Rattle.flat.specs.Cards.{cardBytes, codeOf, disks, setOk}
 use Rattle.flat.specs.Strips.{lengthOk}
 use Rattle.flat.specs.Erasures.{fatal}
-use Rattle.flat.specs.Rebuilding.{agrees, agreeing, restored}
+use Rattle.flat.specs.Rebuilding.{Agreeing, agrees, agreeing, restored}
 use Rattle.flat.specs.Repairs.{filled, consistent, equationAmong}
 use Rattle.flat.specs.Faults.{accepted, refused, cardReport, rebuildReport, rebuildStripe}
 use Rattle.worked.specs.Table.{Rebuilt, C1, C8, C9, C10}
 use Rattle.worked.specs.Worked.{Rebuilds}
-use Rattle.flat.specs.Demand3.{Agreeing, RightRebuild}
+use Rattle.demands.specs.Demand3.{RightRebuild}
 use Rattle.flat.proofs.Reports.{unless-accepted, unless-refused}
 use Rattle.flat.proofs.Agreement.{some-agreeing, all-restored-filled}
 use Rattle.flat.proofs.Consistency.{agreeing-consistent}
-use Rattle.flat.proofs.Demanded.{right-rebuild}
+use Rattle.demands.proofs.Demand3.{right-rebuild}
 
 abbrev card : List ℕ
 card = cardBytes (C1 .of)

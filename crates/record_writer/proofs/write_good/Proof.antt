@@ -40,7 +40,7 @@ unfolding disks
 put-record-requires c κs =
     let p = known (c .before) in
     let a = start (c .before) .args in
-    (omega arith, length-in _ (p .length-ok) .1, omega arith, omega (arith, p .stripe-size), omega (arith, p .room, room-asked (now (a .card)) (a .k) (a .m) (a .l) (a .lost) (start (c .before) .pre .3)))
+    (omega arith, length-in _ (p .passed .length-ok) .1, omega arith, omega (arith, p .passed .size), omega (arith, p .room, room-asked (now (a .card)) (a .k) (a .m) (a .l) (a .lost) (start (c .before) .pre .3)))
 
 same-length : tie.Need-same-length
 same-length c = search needs

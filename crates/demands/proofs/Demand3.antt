@@ -11,21 +11,21 @@ use lib.ListN.{length, getD}
 use Rattle.gf2.specs.If.{if_then_else_}
 use Rattle.gf2.specs.Sets.{size}
 use Rattle.gf2.proofs.Tests.{if-true, if-false}
 use Rattle.flat.specs.Lists.{member}
 use Rattle.flat.specs.Cards.{Code, codeOf, disks, setOk}
 use Rattle.flat.specs.Strips.{lengthOk, byteOf, given}
 use Rattle.flat.specs.Erasures.{fatal, minimalErasure, erasures}
 use Rattle.flat.specs.Equations.{minimalEquation, equations}
-use Rattle.flat.specs.Rebuilding.{agreeing}
+use Rattle.flat.specs.Rebuilding.{Agreeing, agreeing}
 use Rattle.flat.specs.Faults.{Report, accepted, refused, cardReport, erasuresReport, equationsReport, survivorsReport, disksReport, rebuildReport}
-use Rattle.flat.specs.Demand3.{Demand3, Agreeing, OneVerdict, RightList, RightEquations, Restored, RightRebuild, listed, told}
+use Rattle.demands.specs.Demand3.{Demand3, OneVerdict, RightList, RightEquations, Restored, RightRebuild, listed, told}
 use Rattle.flat.proofs.Order.{sorted-at}
 use Rattle.flat.proofs.Duality.{fatal-untold}
 use Rattle.flat.proofs.ErasuresListed as listing
 use Rattle.flat.proofs.EquationsListed as equated
 use Rattle.flat.proofs.Verdicts.{yes-no, verdict-is, erasures-written, equations-written, verdict-listed, equation-listed, long-slices-accepted}
 use Rattle.flat.proofs.Agreement.{only-content, some-agreeing, first-agreeing, agreeing-cases}
 use Rattle.flat.proofs.Rebuilds.{rebuild-is, restored-lost, restored-kept, stripe-first}
 
 -- ---- the two lists
 

@@ -1,5 +1,5 @@
 -- Demand 3: lister and rebuilder share one verdict. One statement, with the definitions that the public contracts cite.
--- The proof is `demand3` of proofs/Theorems.antt.
+-- The proof is `demand3` of proofs/Demand3.antt.
 -- Assumes nothing.
 use mathlib.Core.Path.{_≡_}
 use mathlib.Core.Logic.{_⊎_, _↔_}
@@ -8,19 +8,13 @@ use Prim.Native.Nat.{ℕ, _*_, _^_, _≤_, _<_}
 use lib.Dec.{T}
 use lib.ListN.{length, getD, take}
 use Rattle.gf2.specs.Sets.{has, size, _⊆_}
-use Rattle.flat.specs.Lists.{Bytes, member}
-use Rattle.flat.specs.Cards.{Code, codeOf, disks, setOk, dataPart}
+use Rattle.flat.specs.Lists.{member}
+use Rattle.flat.specs.Cards.{codeOf, disks, setOk, dataPart}
 use Rattle.flat.specs.Strips.{lengthOk, byteOf, given}
 use Rattle.flat.specs.Erasures.{survivors, fatal, minimalErasure, erasures}
 use Rattle.flat.specs.Equations.{minimalEquation, equations}
-use Rattle.flat.specs.Rebuilding.{agrees}
+use Rattle.flat.specs.Rebuilding.{Agreeing}
 use Rattle.flat.specs.Faults.{accepted, refused, cardReport, verdictReport, erasuresReport, erasuresSlice, equationsReport, equationsSlice, rebuildReport, rebuildStripe}
-
--- a data content, k strips of L bytes, that agrees with the survivors
-pub record Agreeing (C : Code) (L S : ℕ) (stripe content : List ℕ) : Type 0 where
-  pub strips : length content ≡ C .k * L
-  pub bytes : Bytes content
-  pub agree : T (agrees C L S stripe content)
 
 -- what the lister writes into a slice, and what the equation call writes for disk d: as many entries as they count
 abbrev pub listed : List ℕ → List ℕ → List ℕ
