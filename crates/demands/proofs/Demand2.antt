@@ -3,7 +3,7 @@
 use mathlib.Core.Path.{_≡_, sym, ap, _∙_}
 use mathlib.Core.Bool.{not}
 use mathlib.Core.List.{List, []}
-use Prim.Native.Nat.{ℕ, _+_, _*_}
+use Prim.Native.Nat.{ℕ, _+_, _*_, _<_}
 use native.Mathlib.Omega.{arith}
 use borrow.Author.Tests.{eqb-true, not-false}
 use lib.Dec.{eqb}
@@ -45,8 +45,8 @@ module _ (card : List ℕ) (L : ℕ) (stripe : List ℕ) (ok : encodeReport card
     parity = λ j t h l. ap (λ (s : List ℕ). byteOf L s t (C .k + j)) written ∙ given-byte C L content t (C .k + j) l (omega arith)
         ∙ holds-parity C (byteOf L content t) j
         ∙ over-cong (C .k) (column C j) (byteOf L content t) (byteOf L stripe t) (λ i k u. byte-take (C .k) L stripe t i l k);
-    data-strips = λ i t h l. ap (λ (s : List ℕ). byteOf L s t i) written ∙ given-byte C L content t i l (omega arith)
-        ∙ holds-data C (byteOf L content t) i h ∙ byte-take (C .k) L stripe t i l h;
+    data-strips = λ i t h l. let d : i < C .k = omega arith in
+        ap (λ (s : List ℕ). byteOf L s t i) written ∙ given-byte C L content t i l (omega arith) ∙ holds-data C (byteOf L content t) i d ∙ byte-take (C .k) L stripe t i l d;
     long = ap length written ∙ length-tabulate (disks C * L) _ ∙ sym sized;
   }
 
