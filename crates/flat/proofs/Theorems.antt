@@ -124,6 +124,9 @@ encoded-filled = positions.encoded-filled
 pub equation-left : Rebuilt.EquationLeft
 equation-left = left.equation-left
 
+pub no-equation-left : Rebuilt.NoEquationLeft
+no-equation-left = left.no-equation-left
+
 pub restored-filled : Rebuilt.RestoredFilled
 restored-filled = agreement.restored-filled
 

@@ -46,6 +46,10 @@ EquationLeft =
     (C : Code) (S d : ℕ) → d < disks C → T (has (determinedSet C S) d)
     → T (equationAmong C S d ⊆ survivors C S) × T (equation C d (equationAmong C S d))
 
+-- Of an undetermined disk it leaves none.
+abbrev pub NoEquationLeft : Type 0
+NoEquationLeft = (C : Code) (S d : ℕ) → T (has (undeterminedSet C S) d) → equationAmong C S d ≡ 0
+
 -- Where some content agrees, restoring determined disks, all or some, fills their strips, each by its equation.
 abbrev pub RestoredFilled : Type 0
 RestoredFilled =
