@@ -1,3 +1,4 @@
 pub mod Picked
 pub mod Owned
 pub mod Going
+pub mod Stepping

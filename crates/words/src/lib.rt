@@ -6,7 +6,9 @@ ghost use lib.Dec.{eqb};
 ghost use lib.ListN.{length, take};
 ghost use Rattle.gf2.specs.Span.{select};
 ghost use Rattle.gf2.specs.Within.{within};
+ghost use Rattle.flat.specs.Lists.{tabulate};
 ghost use Rattle.words.specs.Systematic.{Systematic};
+ghost use Rattle.words.specs.Listed.{stepOf};
 use gf2::Basis;
 
 // Whether one row is left inside the word w that x selects: whether the word is minimal.
@@ -35,4 +37,16 @@ pub fn minimal(basis: Basis, x: u32, w: u32) -> bool
         rows = gf2::cleared_all(gf2::lowest(gf2::outside(b, w)), b, rows);
         left = next;
     }
+}
+
+// What the words of two numbers in a row differ by: at the place of the later number's lowest bit stands
+// the XOR of the rows up to that bit.
+pub fn steps(rows: [u32; 16]) -> [u32; 16]
+    ensures { λ r. ⌜ r ≡ tabulate 16 (stepOf rows) ⌝ }
+{
+    let mut out = [0u32; 16];
+    for t in 0..16 {
+        out[t] = gf2::select(rows, (2u32 << t) - 1);
+    }
+    out
 }
