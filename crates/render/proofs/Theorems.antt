@@ -26,14 +26,13 @@ use Rattle.flat.proofs.Filters.{filter-length}
 use Rattle.erasures.proofs.Enumerated.{vector-length}
 use Rattle.bounds.proofs.ListLengths.{erasures-few}
 use Rattle.bounds.proofs.Values.{erasures-fits}
-use Rattle.decimals.specs.Decimal.{decimal}
-use Rattle.decimals.proofs.Digits.{length-most}
-use Rattle.decimals.proofs.Pieces.{each-most}
-use Rattle.lines.specs.Lines.{entryLine}
-use Rattle.lines.proofs.Lengths.{entry-most, line-most}
+use Rattle.text.specs.Decimal.{decimal}
+use Rattle.text.proofs.Digits.{length-most}
+use Rattle.text.proofs.Pieces.{each-most}
+use Rattle.text.specs.Lines.{entryLine}
 use Rattle.text.specs.Text.{codeWord, vectorWord, refusedWord, listingText, refusedText}
 use Rattle.text.specs.Answers.{textAnswer, textBuffer}
-use Rattle.text.proofs.Lengths.{length-listing}
+use Rattle.text.proofs.Lengths.{entry-most, line-most, length-listing}
 use Rattle.render.specs.Printed.{printed, shownPart}
 use Rattle.render.specs.Theorems.{PrintedShort, PrintedWhole}
 

@@ -10,7 +10,7 @@ use lib.ListN.{length}
 use lib.Seq.{sets-eq}
 use Rattle.text.specs.declared.Text.the-variants.{Written, Short}
 use Rattle.text.specs.Answers.{textAnswer, textBuffer}
-use Rattle.decimals.specs.Places.{Put}
+use Rattle.text.specs.Places.{Put}
 
 module _ (t old : List ℕ) (n : ℕ) (e : n ≡ length t) where
   pub too-short : length old < n → (Short n ≡ textAnswer t (length old)) × (old ≡ textBuffer t old)

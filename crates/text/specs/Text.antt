@@ -3,7 +3,7 @@
 use mathlib.Core.List.{List, [], _∷_, _++_}
 use Prim.Native.Nat.{ℕ}
 use Rattle.flat.specs.Lists.{each}
-use Rattle.lines.specs.Lines.{line, entryLine}
+use Rattle.text.specs.Lines.{line, entryLine}
 
 -- the words `code`, `vector` and `refused`
 abbrev pub codeWord : List ℕ

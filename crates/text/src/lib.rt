@@ -1,13 +1,17 @@
 // The text that a listing prints, rendered into a lent buffer: its length first, then its bytes.
 //
-// What the text is stands in specs/Text.antt, and what is answered for a buffer in specs/Answers.antt.
-// Assumes nothing.
+// Module decimals puts numbers and bytes at a place, module lines the lines. What the text is stands in
+// specs/Text.antt, over the lines of specs/Lines.antt and the numbers of specs/Decimal.antt; what is
+// answered for a buffer stands in specs/Answers.antt. Assumes nothing.
 ghost use mathlib.Core.Path.{_≡_};
 ghost use Prim.Native.Nat.{_+_, _≤_};
 ghost use lib.ListN.{length};
-ghost use Rattle.decimals.specs.Places.{Put};
 ghost use Rattle.text.specs.Text.{listingText, refusedText};
+ghost use Rattle.text.specs.Places.{Put};
 ghost use Rattle.text.specs.Answers.{textAnswer, textBuffer};
+
+mod decimals;
+mod lines;
 
 // The text was written and is so long; or the buffer is too short and was left as it was, and the
 // text would be so long.

@@ -2,7 +2,7 @@
 -- Assumes nothing.
 use borrow.Author.Needs.{needs}
 use Rattle.text.proofs.Answers.{too-short, long-enough}
-use Rattle.decimals.proofs.Puts.{put-length}
+use Rattle.text.proofs.Puts.{put-length}
 use Rattle.text.proofs.listing.Statement.{statement}
 use Rattle.text.proofs.listing.Tie as tie
 

@@ -6,10 +6,10 @@ use borrow.Author.Needs.{needs}
 use denote.Ref.{now}
 use lib.ListN.{length}
 use Rattle.flat.specs.Lists.{each}
-use Rattle.lines.specs.Lines.{line, entryLine}
+use Rattle.text.specs.Lines.{line, entryLine}
 use Rattle.text.specs.Text.{codeWord, vectorWord, listingText}
-use Rattle.decimals.specs.Places.{Put}
-use Rattle.decimals.proofs.Puts.{put-then, put-length, front, behind}
+use Rattle.text.specs.Places.{Put}
+use Rattle.text.proofs.Puts.{put-then, put-length, front, behind}
 use Rattle.text.proofs.put_listing.Statement.{statement}
 use Rattle.text.proofs.put_listing.Tie as tie
 

@@ -3,7 +3,7 @@
 use borrow.Author.Needs.{needs}
 use Rattle.text.specs.Text.{refusedText}
 use Rattle.text.proofs.Answers.{too-short, long-enough}
-use Rattle.decimals.proofs.Puts.{put-length}
+use Rattle.text.proofs.Puts.{put-length}
 use Rattle.text.proofs.refused.Statement.{statement}
 use Rattle.text.proofs.refused.Tie as tie
 

@@ -1,2 +1,0 @@
-pub mod Decimal
-pub mod Places
