@@ -17,13 +17,13 @@ use Rattle.gf2.proofs.Tests.{below-or}
 use Rattle.gf2.proofs.Xor.{⊕-lt, ⊕-zero, zero-⊕}
 use Rattle.gf2.proofs.Sums.{if-has}
 use Rattle.flat.specs.Lists.{setOf, field}
-use Rattle.flat.specs.Cards.{Code, code, disks, column, columnsIn}
+use Rattle.flat.specs.Cards.{Code, disks, column, columnsIn, codeIn}
 use Rattle.flat.specs.Spans.{row, check}
 use Rattle.flat.proofs.Lists.{getD-tabulate}
 use Rattle.flat.proofs.Quantifiers.{set-lt, bit-set, add-power}
 
 -- column j of the code whose columns stand in bytes
-column-field : (k m : ℕ) (bs : List ℕ) (j : ℕ) → j < m → column (code k m (columnsIn m bs)) j ≡ field (2 * j) 2 bs
+column-field : (k m : ℕ) (bs : List ℕ) (j : ℕ) → j < m → column (codeIn k m bs) j ≡ field (2 * j) 2 bs
 unfolding column columnsIn
 column-field k m bs j l = getD-tabulate m (λ i. field (2 * i) 2 bs) j l
 
@@ -35,7 +35,7 @@ add-fits a n l h =
 module _ (k m i : ℕ) (bs : List ℕ) where
   -- is disk d in row i?
   unfoldable pub inRow : ℕ → Bool
-  inRow d = if ltb d k then eqb d i else has (column (code k m (columnsIn m bs)) (d - k)) i
+  inRow d = if ltb d k then eqb d i else has (column (codeIn k m bs) (d - k)) i
 
   pub row-start : i < k → 2 ^ i ≡ setOf (k + 0) inRow
   unfolding inRow
@@ -54,13 +54,13 @@ module _ (k m i : ℕ) (bs : List ℕ) where
       let n : k + (j + 1) ≡ suc (k + j) = omega arith in
       rw (n, e, ← p)
 
-  pub row-end : row (code k m (columnsIn m bs)) i ≡ setOf (k + m) inRow
+  pub row-end : row (codeIn k m bs) i ≡ setOf (k + m) inRow
   unfolding row inRow disks
   row-end = refl
 
 -- check j is its column and its parity disk
 pub check-sum : (k m j : ℕ) (bs : List ℕ) → j < m → field (2 * j) 2 bs < 2 ^ k
-    → field (2 * j) 2 bs + 2 ^ (k + j) ≡ check (code k m (columnsIn m bs)) j
+    → field (2 * j) 2 bs + 2 ^ (k + j) ≡ check (codeIn k m bs) j
 unfolding check disks
 check-sum k m j bs l h =
     add-power (k + j) c low
@@ -70,7 +70,7 @@ check-sum k m j bs l h =
     (λ d n. bit-⊕-bits c (2 ^ (k + j)) d ∙ ap (λ (x : ℕ). bit c d ⊕ x) (bit-pow (k + j) d) ∙ at d (below-or d k) ∙ sym (bit-set (k + m) inCheck d n))
   where
     C : Code
-    C = code k m (columnsIn m bs)
+    C = codeIn k m bs
 
     c : ℕ
     c = field (2 * j) 2 bs

@@ -3,56 +3,53 @@
 -- Assumes nothing.
 use mathlib.Core.Path.{_≡_, sym, ap, _∙_, subst}
 use mathlib.Core.List.{List, [], _∷_}
-use Prim.Native.Nat.{ℕ, _+_, _*_, _^_, _≤_, _<_}
+use Prim.Native.Nat.{ℕ, _+_, _*_, _^_, _<_}
 use native.Mathlib.Omega.{arith}
-use lib.ListN.{length, drop, length-drop}
+use lib.ListN.{length, length-drop}
 use Rattle.flat.specs.Lists.{field}
-use Rattle.flat.specs.Cards.{Code, code, codeOf, cardLength, columnsIn}
+use Rattle.flat.specs.Cards.{Code, codeOf, cardLength, columnsIn, columnBytes, codeIn}
 use Rattle.flat.specs.Faults.{Report, accepted, cardReport, withCard}
 use Rattle.flat.proofs.Lists.{getD-tabulate}
 use Rattle.flat.proofs.Reports.{with-accepted}
-use Rattle.flat.proofs.Cards.{Accepted, accepted-card, count-in, column-in, none-bad, length-columns}
+use Rattle.flat.proofs.Cards.{accepted-card, count-in, column-in, none-bad, length-columns}
 use Rattle.card.specs.declared.CardFault.{CardFault}
 use Rattle.card.specs.declared.CardCheck.the-variants.{Good, Bad}
+use Rattle.card.specs.Columns.{Columns}
 use Rattle.card.specs.Reports.{faultReport, checkReport}
 use Rattle.card.proofs.Laws.{unless-fault}
 
-pub good-card : (card : List ℕ) (k m : ℕ) → checkReport (Good k m) ≡ cardReport card → Accepted card k m
-good-card card k m e = accepted-card card k m (sym e)
-
 -- a card that the check found good
 pub record GoodCard (card : List ℕ) (k m : ℕ) : Type 0 where
-  pub k-in : (1 ≤ k) × (k ≤ 16)
-  pub m-in : (1 ≤ m) × (m ≤ 16)
   pub size : length card ≡ 2 + 2 * m
-  -- the columns are what comes after the two counts
-  pub columns : length (drop 2 card) ≡ 2 * m
-  pub small : (j : ℕ) → j < m → field (2 * j) 2 (drop 2 card) < 2 ^ k
+  pub columns : Columns k m (columnBytes card)
   pub found : cardReport card ≡ accepted (k ∷ m ∷ [])
-  pub is : codeOf card ≡ code k m (columnsIn m (drop 2 card))
+  pub is : codeOf card ≡ codeIn k m (columnBytes card)
 
 pub good : (card : List ℕ) (k m : ℕ) → checkReport (Good k m) ≡ cardReport card → GoodCard card k m
 unfolding cardLength columnsIn
 good card k m e =
-    let a = good-card card k m e in
+    let a = accepted-card card k m (sym e) in
     let s = a .sound in
-    let bs = drop 2 card in
+    let bs = columnBytes card in
     let n : length (columnsIn m bs) ≡ m = length-columns m bs in
     record {
-      k-in = count-in k (s .k-ok);
-      m-in = count-in m (s .m-ok);
       size = a .size;
-      columns = omega (arith, a .size, length-drop 2 card);
-      small =
-          λ j l. subst (λ (c : ℕ). c < 2 ^ k) (getD-tabulate m (λ i. field (2 * i) 2 bs) j l)
-          (column-in k _ (none-bad k (columnsIn m bs) (omega (arith, s .first)) j (omega arith)) .1);
+      columns = (
+        count-in k (s .k-ok) .0,
+        count-in k (s .k-ok) .1,
+        count-in m (s .m-ok) .0,
+        count-in m (s .m-ok) .1,
+        omega (arith, a .size, length-drop 2 card),
+        λ j l. subst (λ (c : ℕ). c < 2 ^ k) (getD-tabulate m (λ i. field (2 * i) 2 bs) j l)
+            (column-in k _ (none-bad k (columnsIn m bs) (omega (arith, s .first)) j (omega arith)) .1),
+      );
       found = sym e;
       is = a .is;
     }
 
 -- what the caller's call answers
 pub good-with : (card : List ℕ) (k m : ℕ) (answer : Code → Report) → GoodCard card k m
-    → withCard card answer ≡ answer (code k m (columnsIn m (drop 2 card)))
+    → withCard card answer ≡ answer (codeIn k m (columnBytes card))
 good-with card k m answer g = with-accepted card (k ∷ m ∷ []) answer (g .found) ∙ ap answer (g .is)
 
 pub bad-card : (card : List ℕ) (f : CardFault) (answer : Code → Report) → checkReport (Bad f) ≡ cardReport card → withCard card answer ≡ faultReport f

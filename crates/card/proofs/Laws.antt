@@ -1,28 +1,22 @@
--- The report of a code and of a card at each way out of the tests, what a refusal leaves, and the part of a card that the code lends.
+-- The report of a code and of a card at each way out of the tests, and what a card's fault tells.
 -- Assumes nothing.
 use mathlib.Core.Path.{_≡_, refl, sym, ap, _∙_}
 use mathlib.Core.Bool.{Bool, true, false}
 use mathlib.Core.List.{List, [], _∷_}
-use Prim.Native.Nat.{ℕ, _+_, _-_, _*_, _≤_, _<_}
+use Prim.Native.Nat.{ℕ, _+_, _*_, _≤_, _<_}
 use native.Mathlib.Omega.{arith}
 use borrow.Author.Tests.{lt-ltb, le-ltb}
 use lib.Dec.{eqb}
-use lib.ListN.{length, getD, take, drop, replicate, length-drop}
-use lib.Seq.{take-all}
+use lib.ListN.{length, getD, replicate}
+use Rattle.gf2.specs.If.{if_then_else_}
 use Rattle.flat.specs.Lists.{padded}
-use Rattle.flat.specs.Cards.{Code, code, countOk, firstBad, cardLength, columnsIn, codeOf}
+use Rattle.flat.specs.Cards.{Code, countOk, firstBad, cardLength, codeOf, columnBytes, codeIn}
 use Rattle.flat.specs.Faults.{Report, accepted, refused, unlessRefused, codeReport, cardReport, cardColumns}
-use Rattle.flat.proofs.Reports.{unless-refused}
+use Rattle.flat.proofs.Reports.{unless-other}
 use Rattle.flat.proofs.Cards.{sound-report}
 use Rattle.card.specs.declared.CardFault.{CardFault}
 use Rattle.card.specs.declared.CardFault.the-variants.{Short, DataCount, ParityCount, Length, Column}
 use Rattle.card.specs.Reports.{faultReport}
-
--- ---- what the code computes
-
--- the bytes from n on, as the code lends them
-pub rest : (n : ℕ) (l : List ℕ) → take (length l - n) (drop n l) ≡ drop n l
-rest n l = take-all (length l - n) (drop n l) (omega (arith, length-drop n l))
 
 -- ---- the report of a code at each way out
 
@@ -60,28 +54,39 @@ card-short card h = simp (lt-ltb _ _ h)
 pub card-tests : (card : List ℕ) {r : Report} → 2 ≤ length card →
     let k = getD card 0 0 in
     let m = getD card 1 0 in
-    r ≡ codeReport (code k m (columnsIn m (drop 2 card))) (eqb (length card) (2 + 2 * m)) (accepted (k ∷ m ∷ [])) → r ≡ cardReport card
+    r ≡ codeReport (codeIn k m (columnBytes card)) (eqb (length card) (2 + 2 * m)) (accepted (k ∷ m ∷ [])) → r ≡ cardReport card
 unfolding cardReport codeOf cardLength
 card-tests card h e = simp (le-ltb _ _ h) e
 
--- ---- refusals
+-- ---- faults
+
+-- the fault that a report comes from
+abbrev pub faultOf : Report → CardFault
+faultOf r =
+    if eqb (r .number) 1 then Short else
+    if eqb (r .number) 2 then DataCount else
+    if eqb (r .number) 3 then ParityCount else
+    if eqb (r .number) 4 then Length else
+    Column (getD (r .values) 0 0)
+
+-- a fault's number is not 0, and its report tells the fault. No other proof takes the faults apart.
+fault-told : (f : CardFault) → (eqb (faultReport f .number) 0 ≡ false) × (faultOf (faultReport f) ≡ f)
+fault-told Short = (refl, refl)
+fault-told DataCount = (refl, refl)
+fault-told ParityCount = (refl, refl)
+fault-told Length = (refl, refl)
+fault-told (Column j) = (refl, refl)
+
+pub fault-refuses : (f : CardFault) → eqb (faultReport f .number) 0 ≡ false
+fault-refuses f = fault-told f .0
+
+pub fault-back : (f : CardFault) → faultOf (faultReport f) ≡ f
+fault-back f = fault-told f .1
 
 -- a report that is a fault's refuses
 module _ {A : Type 0} where
   pub unless-fault : (f : CardFault) (r : Report) (new old : A) → faultReport f ≡ r → unlessRefused r new old ≡ old
-  unless-fault Short r new old e = unless-refused r _ _ new old (sym e)
-  unless-fault DataCount r new old e = unless-refused r _ _ new old (sym e)
-  unless-fault ParityCount r new old e = unless-refused r _ _ new old (sym e)
-  unless-fault Length r new old e = unless-refused r _ _ new old (sym e)
-  unless-fault (Column j) r new old e = unless-refused r _ _ new old (sym e)
-
--- a fault's number is not 0
-pub fault-refuses : (f : CardFault) → eqb (faultReport f .number) 0 ≡ false
-fault-refuses Short = refl
-fault-refuses DataCount = refl
-fault-refuses ParityCount = refl
-fault-refuses Length = refl
-fault-refuses (Column j) = refl
+  unless-fault f r new old e = sym (unless-other r new old (ap (λ (x : Report). eqb (x .number) 0) (sym e) ∙ fault-refuses f))
 
 -- a refused card has no columns
 pub columns-refused : (card : List ℕ) (f : CardFault) → faultReport f ≡ cardReport card → replicate 16 0 ≡ cardColumns card

@@ -7,12 +7,12 @@
 // in flat/specs/Faults.antt.
 ghost use mathlib.Core.Path.{_≡_};
 ghost use Prim.Native.Nat.{_+_, _*_, _<_, _≤_};
-ghost use lib.ListN.{length};
+ghost use lib.ListN.{length, getD};
 ghost use Rattle.flat.specs.Lists.{padded, field};
-ghost use Rattle.flat.specs.Cards.{countOk, columnOk, firstBad, columnsIn};
+ghost use Rattle.flat.specs.Cards.{countOk, columnOk, firstBad, columnBytes, columnsIn};
 ghost use Rattle.flat.specs.Strips.{lengthOk};
 ghost use Rattle.flat.specs.Faults.{cardReport, cardColumns};
-ghost use Rattle.card.specs.Reports.{checkReport};
+ghost use Rattle.card.specs.Reports.{faultReport, checkReport};
 
 // A fault of whoever wrote the card. Column names the first column that is 0 or has a bit at k or above.
 pub enum CardFault {
@@ -21,6 +21,32 @@ pub enum CardFault {
     ParityCount,
     Length,
     Column(usize),
+}
+
+// A fault's number.
+pub fn number(fault: CardFault) -> usize
+    ensures { λ r. ⌜ r ≡ faultReport fault .number ⌝ }
+{
+    match fault {
+        CardFault::Short => 1,
+        CardFault::DataCount => 2,
+        CardFault::ParityCount => 3,
+        CardFault::Length => 4,
+        CardFault::Column(_) => 5,
+    }
+}
+
+// The value that a fault's report names, 0 where it names none.
+pub fn value(fault: CardFault) -> usize
+    ensures { λ r. ⌜ r ≡ getD (faultReport fault .values) 0 0 ⌝ }
+{
+    match fault {
+        CardFault::Short => 0,
+        CardFault::DataCount => 0,
+        CardFault::ParityCount => 0,
+        CardFault::Length => 0,
+        CardFault::Column(j) => j,
+    }
 }
 
 // What the check finds: a card of k data disks and m parity disks, or its fault.
@@ -93,6 +119,14 @@ pub fn column(columns: &[u8], j: usize) -> u16
     low + 256 * high
 }
 
+// The part of a card that its columns stand in.
+pub fn columns(card: &[u8]) -> &[u8]
+    requires { ⌜ 2 ≤ length (now card) ⌝ }
+    ensures { λ r. ⌜ now r ≡ columnBytes (now (card .entry)) ⌝ }
+{
+    &card[2..]
+}
+
 // The m columns out of their bytes, then zeros.
 fn columns_of(m: usize, columns: &[u8]) -> [u16; 16]
     requires { ⌜ (m ≤ 16) × (2 * m ≤ length (now columns)) ⌝ }
@@ -123,8 +157,8 @@ pub fn check(card: &[u8]) -> CardCheck
     if card.len() != 2 + 2 * m {
         return CardCheck::Bad(CardFault::Length);
     }
-    let columns = columns_of(m, &card[2..]);
-    let bad = first_bad(k, &columns[..m]);
+    let all = columns_of(m, columns(card));
+    let bad = first_bad(k, &all[..m]);
     if bad < m {
         return CardCheck::Bad(CardFault::Column(bad));
     }
@@ -142,8 +176,11 @@ pub fn read(card: &[u8]) -> CardRead
             columns: [0u16; 16],
         },
         CardCheck::Good { k: _, m } => {
-            let columns = columns_of(m, &card[2..]);
-            CardRead { check, columns }
+            let all = columns_of(m, columns(card));
+            CardRead {
+                check,
+                columns: all,
+            }
         }
     }
 }

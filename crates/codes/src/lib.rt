@@ -37,13 +37,7 @@ pub fn fault_code(fault: CardFault) -> u64
     requires { ⌜ Fits (faultReport fault) ⌝ }
     ensures { λ r. ⌜ r ≡ coded (faultReport fault) ⌝ }
 {
-    match fault {
-        CardFault::Short => 1,
-        CardFault::DataCount => 2,
-        CardFault::ParityCount => 3,
-        CardFault::Length => 4,
-        CardFault::Column(j) => packed(5, j),
-    }
+    packed(card::number(fault) as u64, card::value(fault))
 }
 
 // The card writer's answer.

@@ -6,9 +6,9 @@ use mathlib.Core.List.{List, []}
 use Prim.Native.Nat.{ℕ, suc, _+_, _*_}
 use borrow.Author.Tests.{eq-eqb, ne-eqb}
 use lib.Dec.{eqb}
-use lib.ListN.{length, drop}
+use lib.ListN.{length}
 use Rattle.gf2.specs.If.{if_then_else_}
-use Rattle.flat.specs.Cards.{Code, code, codeOf, columnsIn, disks}
+use Rattle.flat.specs.Cards.{Code, codeOf, disks, columnBytes, codeIn}
 use Rattle.flat.specs.Strips.{lengthOk, encoded}
 use Rattle.flat.specs.Faults.{accepted, refused, cardReport, encodeTests, encodeReport, encodeStripe}
 use Rattle.flat.proofs.Reports.{unless-accepted, unless-refused}
@@ -52,7 +52,7 @@ module _ (card : List ℕ) (l k m n : ℕ) (g : GoodCard card k m) where
 
 -- an accepted call leaves it encoded
 pub good-stripe : (card : List ℕ) (l k m : ℕ) (stripe : List ℕ) → GoodCard card k m → accepted [] ≡ encodeReport card l (length stripe)
-    → encoded (code k m (columnsIn m (drop 2 card))) l stripe ≡ encodeStripe card l stripe
+    → encoded (codeIn k m (columnBytes card)) l stripe ≡ encodeStripe card l stripe
 unfolding encodeStripe
 good-stripe card l k m stripe g e =
     ap (λ (C : Code). encoded C l stripe) (sym (g .is))

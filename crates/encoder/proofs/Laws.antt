@@ -13,7 +13,7 @@ use Rattle.gf2.specs.Sets.{has, first}
 use Rattle.gf2.proofs.Tests.{ltb-in, not-out, below-suc, below-or}
 use Rattle.gf2.proofs.Unions.{first-has}
 use Rattle.flat.specs.Lists.{setOf, field}
-use Rattle.flat.specs.Cards.{code, columnsIn, column, disks}
+use Rattle.flat.specs.Cards.{columnsIn, column, disks, codeIn}
 use Rattle.flat.specs.Strips.{encoded}
 use Rattle.flat.specs.Repairs.{filled, parities}
 use Rattle.flat.proofs.Lists.{getD-tabulate}
@@ -49,7 +49,7 @@ not-first n k = λ j. setOf n (λ i. not (first-has k i j))
 
 module _ (k m : ℕ) (columns : List ℕ) where
   -- a parity disk is k and as many more as its column's number
-  pub parity-out : (d : ℕ) → T (has (parities (code k m (columnsIn m columns))) d) → (k ≤ d) × (d - k < m)
+  pub parity-out : (d : ℕ) → T (has (parities (codeIn k m columns)) d) → (k ≤ d) × (d - k < m)
   unfolding parities
   parity-out d t =
       let p = set-out (k + m) (λ i. not (ltb i k)) d t in
@@ -62,11 +62,11 @@ module _ (k m : ℕ) (columns : List ℕ) where
 
   -- filling by the stored columns is encoding
   pub filled-encoded : (l : ℕ) (stripe sets : List ℕ) → (k + m) * l ≡ length stripe → ((j : ℕ) → j < m → getD sets (k + j) 0 ≡ field (2 * j) 2 columns)
-      → filled k l (λ d. getD sets d 0) (parities (code k m (columnsIn m columns))) stripe ≡ encoded (code k m (columnsIn m columns)) l stripe
+      → filled k l (λ d. getD sets d 0) (parities (codeIn k m columns)) stripe ≡ encoded (codeIn k m columns) l stripe
   unfolding columnsIn column disks
   filled-encoded l stripe sets e h =
-      filled-cong k l (λ d. getD sets d 0) (λ d. column (code k m (columnsIn m columns)) (d - k)) (parities (code k m (columnsIn m columns))) stripe
+      filled-cong k l (λ d. getD sets d 0) (λ d. column (codeIn k m columns) (d - k)) (parities (codeIn k m columns)) stripe
       (λ d t. let p = parity-out d t in
       let x : k + (d - k) ≡ d = omega arith in
       ap (λ (y : ℕ). getD sets y 0) (sym x) ∙ h (d - k) (p .1) ∙ sym (getD-tabulate m (λ j. field (2 * j) 2 columns) (d - k) (p .1)))
-      ∙ sym (encoded-filled (code k m (columnsIn m columns)) l stripe (sym e))
+      ∙ sym (encoded-filled (codeIn k m columns) l stripe (sym e))

@@ -9,9 +9,10 @@ ghost use Prim.Native.Nat.{ℕ, _+_, _*_, _<_, _≤_};
 ghost use lib.Dec.{ltb};
 ghost use lib.ListN.{length, getD};
 ghost use Rattle.flat.specs.Lists.{setOf, field};
-ghost use Rattle.flat.specs.Cards.{code, columnsIn};
+ghost use Rattle.flat.specs.Cards.{codeIn};
 ghost use Rattle.flat.specs.Strips.{encoded};
 ghost use Rattle.flat.specs.Faults.{encodeReport, encodeStripe};
+ghost use Rattle.card.specs.Columns.{Columns};
 ghost use Rattle.encoder.specs.Reports.{encodedReport};
 use card::CardCheck;
 use card::CardFault;
@@ -27,7 +28,7 @@ pub enum Encoded {
 
 // The column of each parity disk, at the disk's place. The other places mean nothing.
 fn parity_sets(columns: &[u8], k: usize, m: usize) -> [u32; 32]
-    requires { ⌜ (k ≤ 16) × (m ≤ 16) × (2 * m ≤ length (now columns)) ⌝ }
+    requires { ⌜ Columns k m (now columns) ⌝ }
     ensures { λ r. ⌜ ((j : ℕ) → j < m → getD r (k + j) 0 ≡ field (2 * j) 2 (now (columns .entry))) ⌝ }
 {
     let mut out = [0u32; 32];
@@ -47,8 +48,8 @@ fn parities(k: usize, m: usize) -> u32
 
 // The encoder, on the columns of an accepted card and a stripe of its length.
 fn encode_columns(columns: &[u8], k: usize, m: usize, l: usize, stripe: &mut [u8])
-    requires { ⌜ (1 ≤ k) × (k ≤ 16) × (m ≤ 16) × (2 * m ≤ length (now columns)) × (1 ≤ l) × ((k + m) * l ≡ length (now stripe)) ⌝ }
-    ensures { λ _. ⌜ now (stripe .exit) ≡ encoded (code k m (columnsIn m (now (columns .entry)))) l (now (stripe .entry)) ⌝ }
+    requires { ⌜ Columns k m (now columns) × (1 ≤ l) × ((k + m) * l ≡ length (now stripe)) ⌝ }
+    ensures { λ _. ⌜ now (stripe .exit) ≡ encoded (codeIn k m (now (columns .entry))) l (now (stripe .entry)) ⌝ }
 {
     let sets = parity_sets(columns, k, m);
     strips::fill(stripe, l, k, k + m, parities(k, m), sets);
@@ -68,7 +69,7 @@ pub fn encode(card: &[u8], l: usize, stripe: &mut [u8]) -> Encoded
             if stripe.len() != (k + m) * l {
                 return Encoded::StripeLength;
             }
-            encode_columns(&card[2..], k, m, l, stripe);
+            encode_columns(card::columns(card), k, m, l, stripe);
             Encoded::Done
         }
     }

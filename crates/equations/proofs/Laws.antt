@@ -6,9 +6,9 @@ use mathlib.Core.List.{List, []}
 use Prim.Native.Nat.{ℕ, _+_, _≤_, _<_}
 use native.Mathlib.Omega.{arith}
 use borrow.Author.Tests.{lt-ltb, le-ltb}
-use lib.ListN.{length, take, drop}
+use lib.ListN.{length, take}
 use Rattle.gf2.specs.If.{if_then_else_}
-use Rattle.flat.specs.Cards.{Code, code, codeOf, columnsIn, disks}
+use Rattle.flat.specs.Cards.{Code, code, codeOf, disks, columnBytes, codeIn}
 use Rattle.flat.specs.Equations.{equations}
 use Rattle.flat.specs.Faults.{Report, refused, unlessRefused, cardReport, listReport, listSlice, equationsTests, equationsReport, equationsSlice}
 use Rattle.flat.specs.Spans.{checks}
@@ -39,7 +39,7 @@ module _ (card : List ℕ) (d : ℕ) (f : CardFault) (bad : checkReport (Bad f) 
 
 module _ (card : List ℕ) (d k m : ℕ) (g : GoodCard card k m) where
   abbrev C : Code
-  C = code k m (columnsIn m (drop 2 card))
+  C = codeIn k m (columnBytes card)
 
   -- a disk that the code lacks
   module _ (l : k + m ≤ d) where

@@ -4,12 +4,12 @@
 // Every byte string, disk and slice is a legal argument. What is answered for which input is said in
 // flat/specs/Faults.antt.
 ghost use mathlib.Core.Path.{_≡_};
-ghost use Prim.Native.Nat.{ℕ, _+_, _*_, _^_, _≤_, _<_};
+ghost use Prim.Native.Nat.{_+_, _<_};
 ghost use lib.ListN.{length};
-ghost use Rattle.flat.specs.Lists.{field};
-ghost use Rattle.flat.specs.Cards.{code, columnsIn};
+ghost use Rattle.flat.specs.Cards.{codeIn};
 ghost use Rattle.flat.specs.Equations.{equations};
 ghost use Rattle.flat.specs.Faults.{unlessRefused, listReport, listSlice, equationsReport, equationsSlice};
+ghost use Rattle.card.specs.Columns.{Columns};
 ghost use Rattle.equations.specs.Reports.{toldReport};
 use card::CardCheck;
 use card::CardFault;
@@ -27,10 +27,9 @@ pub enum Told {
 // The equations of a disk, on the columns of an accepted card: nothing is written before the count is
 // known. They are the minimal words of the checks' span that hold the disk, without it.
 fn list_columns(columns: &[u8], k: usize, m: usize, disk: usize, out: &mut [u32]) -> Told
-    requires { ⌜ (k ≤ 16) × (1 ≤ m) × (m ≤ 16) × (disk < k + m) × (2 * m ≤ length (now columns)) ⌝ }
-    requires { ⌜ ((j : ℕ) → j < m → field (2 * j) 2 (now columns) < 2 ^ k) ⌝ }
-    ensures { λ r. ⌜ toldReport r ≡ listReport (equations (code k m (columnsIn m (now (columns .entry)))) disk) (length (now (out .entry))) ⌝ }
-    ensures { λ r. ⌜ now (out .exit) ≡ unlessRefused (toldReport r) (listSlice (equations (code k m (columnsIn m (now (columns .entry)))) disk) (now (out .entry))) (now (out .entry)) ⌝ }
+    requires { ⌜ Columns k m (now columns) × (disk < k + m) ⌝ }
+    ensures { λ r. ⌜ toldReport r ≡ listReport (equations (codeIn k m (now (columns .entry))) disk) (length (now (out .entry))) ⌝ }
+    ensures { λ r. ⌜ now (out .exit) ≡ unlessRefused (toldReport r) (listSlice (equations (codeIn k m (now (columns .entry))) disk) (now (out .entry))) (now (out .entry)) ⌝ }
 {
     let basis = bases::checks(columns, k, m);
     let set = 1u32 << disk;
@@ -56,7 +55,7 @@ pub fn list(card: &[u8], disk: usize, out: &mut [u32]) -> Told
             if k + m <= disk {
                 return Told::NoDisk;
             }
-            list_columns(&card[2..], k, m, disk, out)
+            list_columns(card::columns(card), k, m, disk, out)
         }
     }
 }

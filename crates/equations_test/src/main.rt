@@ -19,11 +19,8 @@ fn say_slot(slot: u32) {
 // A card's fault.
 fn say_fault(fault: CardFault) {
     match fault {
-        CardFault::Short => say(b"refused ", 1),
-        CardFault::DataCount => say(b"refused ", 2),
-        CardFault::ParityCount => say(b"refused ", 3),
-        CardFault::Length => say(b"refused ", 4),
         CardFault::Column(j) => say(b"refused 5 column ", j),
+        _ => say(b"refused ", card::number(fault)),
     }
 }
 

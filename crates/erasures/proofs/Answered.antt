@@ -3,9 +3,9 @@
 use mathlib.Core.Path.{_≡_, sym, ap, ap₂}
 use mathlib.Core.List.{List, []}
 use Prim.Native.Nat.{ℕ}
-use lib.ListN.{length, drop, replicate}
+use lib.ListN.{length, replicate}
 use Rattle.flat.specs.Lists.{padded}
-use Rattle.flat.specs.Cards.{Code, code, columnsIn, codeOf}
+use Rattle.flat.specs.Cards.{Code, codeOf, columnBytes, codeIn}
 use Rattle.flat.specs.Erasures.{erasures, vector}
 use Rattle.flat.specs.Faults.{Report, unlessRefused, cardReport, listReport, listSlice, erasuresReport, erasuresVector, erasuresSlice}
 use Rattle.card.specs.declared.CardFault.{CardFault}
@@ -30,7 +30,7 @@ module _ (card : List ℕ) (f : CardFault) (bad : checkReport (Bad f) ≡ cardRe
 
 module _ (card : List ℕ) (k m : ℕ) (g : GoodCard card k m) where
   abbrev C : Code
-  C = code k m (columnsIn m (drop 2 card))
+  C = codeIn k m (columnBytes card)
 
   pub good-report : (n : ℕ) → listReport (erasures C) n ≡ erasuresReport card n
   unfolding erasuresReport

@@ -7,9 +7,10 @@ ghost use mathlib.Core.List.{[]};
 ghost use Prim.Native.Nat.{_+_, _*_, _≤_};
 ghost use lib.ListN.{length, getD};
 ghost use Rattle.flat.specs.Lists.{padded, tabulate};
-ghost use Rattle.flat.specs.Cards.{code, columnsIn};
+ghost use Rattle.flat.specs.Cards.{codeIn};
 ghost use Rattle.flat.specs.Erasures.{erasures, vector};
 ghost use Rattle.flat.specs.Faults.{unlessRefused, listReport, listSlice, erasuresReport, erasuresVector, erasuresSlice};
+ghost use Rattle.card.specs.Columns.{Columns};
 ghost use Rattle.words.specs.Listed.{sizes};
 ghost use Rattle.erasures.specs.Reports.{listedReport};
 use card::CardCheck;
@@ -45,10 +46,10 @@ fn vector(counts: [usize; KEYS], m: usize) -> [usize; 17]
 
 // The lister, on the columns of an accepted card: nothing is written before the count is known.
 fn list_columns(columns: &[u8], k: usize, m: usize, out: &mut [u32]) -> Listing
-    requires { ⌜ (1 ≤ k) × (k ≤ 16) × (m ≤ 16) × (2 * m ≤ length (now columns)) ⌝ }
-    ensures { λ r. ⌜ listedReport (r .answer) ≡ listReport (erasures (code k m (columnsIn m (now (columns .entry))))) (length (now (out .entry))) ⌝ }
-    ensures { λ r. ⌜ r .vector ≡ padded 17 (unlessRefused (listedReport (r .answer)) (vector (code k m (columnsIn m (now (columns .entry))))) []) ⌝ }
-    ensures { λ r. ⌜ now (out .exit) ≡ unlessRefused (listedReport (r .answer)) (listSlice (erasures (code k m (columnsIn m (now (columns .entry))))) (now (out .entry))) (now (out .entry)) ⌝ }
+    requires { ⌜ Columns k m (now columns) ⌝ }
+    ensures { λ r. ⌜ listedReport (r .answer) ≡ listReport (erasures (codeIn k m (now (columns .entry)))) (length (now (out .entry))) ⌝ }
+    ensures { λ r. ⌜ r .vector ≡ padded 17 (unlessRefused (listedReport (r .answer)) (vector (codeIn k m (now (columns .entry)))) []) ⌝ }
+    ensures { λ r. ⌜ now (out .exit) ≡ unlessRefused (listedReport (r .answer)) (listSlice (erasures (codeIn k m (now (columns .entry)))) (now (out .entry))) (now (out .entry)) ⌝ }
 {
     let basis = bases::rows(columns, k, m);
     let mut marks = [0u64; 1024];
@@ -79,14 +80,14 @@ pub fn list(card: &[u8], out: &mut [u32]) -> Listing
             answer: Listed::Card(fault),
             vector: [0usize; 17],
         },
-        CardCheck::Good { k, m } => list_columns(&card[2..], k, m, out),
+        CardCheck::Good { k, m } => list_columns(card::columns(card), k, m, out),
     }
 }
 
 // The vector of the columns of an accepted card, without the list.
 pub fn count_columns(columns: &[u8], k: usize, m: usize) -> [usize; 17]
-    requires { ⌜ (1 ≤ k) × (k ≤ 16) × (m ≤ 16) × (2 * m ≤ length (now columns)) ⌝ }
-    ensures { λ r. ⌜ r ≡ padded 17 (vector (code k m (columnsIn m (now (columns .entry))))) ⌝ }
+    requires { ⌜ Columns k m (now columns) ⌝ }
+    ensures { λ r. ⌜ r ≡ padded 17 (vector (codeIn k m (now (columns .entry)))) ⌝ }
 {
     let basis = bases::rows(columns, k, m);
     let mut marks = [0u64; 1024];

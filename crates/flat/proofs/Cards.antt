@@ -8,11 +8,11 @@ use native.Mathlib.Nat.{not-suc-le-zero}
 use native.Mathlib.Omega.{arith}
 use borrow.Author.Tests.{ltb-false, eqb-true, not-false, le-ltb, eq-eqb}
 use lib.Dec.{leb, ltb, eqb}
-use lib.ListN.{length, getD, drop}
+use lib.ListN.{length, getD}
 use Rattle.gf2.specs.If.{if_then_else_}
 use Rattle.gf2.proofs.Tests.{true-T, and-out, ltb-out, leb-out}
 use Rattle.flat.specs.Lists.{Bytes, tabulate, each, bytes, field}
-use Rattle.flat.specs.Cards.{Code, code, countOk, columnOk, firstBad, cardLength, columnsIn, codeOf}
+use Rattle.flat.specs.Cards.{Code, countOk, columnOk, firstBad, cardLength, columnsIn, codeOf, columnBytes, codeIn}
 use Rattle.flat.specs.Faults.{Report, accepted, codeReport, cardReport}
 use Rattle.flat.proofs.Lists.{length-tabulate, tabulate-cong, field-two}
 use Rattle.flat.proofs.Reports.{passed, passed-number}
@@ -132,8 +132,8 @@ sound-report C next s = simp (s .k-ok, s .m-ok, le-ltb _ _ (s .first))
 
 -- a card that is accepted with these k and m
 pub record Accepted (card : List ℕ) (k m : ℕ) : Type 0 where
-  pub is : codeOf card ≡ code k m (columnsIn m (drop 2 card))
-  pub sound : Sound (code k m (columnsIn m (drop 2 card)))
+  pub is : codeOf card ≡ codeIn k m (columnBytes card)
+  pub sound : Sound (codeIn k m (columnBytes card))
   pub size : length card ≡ cardLength m
 
 pub accepted-card : (card : List ℕ) (k m : ℕ) → cardReport card ≡ accepted (k ∷ m ∷ []) → Accepted card k m
@@ -145,8 +145,8 @@ accepted-card card k m e =
     let r : accepted (C .k ∷ C .m ∷ []) ≡ accepted (k ∷ m ∷ []) = s .2 in
     let ek : getD card 0 0 ≡ k = ap (λ (x : Report). getD (x .values) 0 0) r in
     let em : getD card 1 0 ≡ m = ap (λ (x : Report). getD (x .values) 1 0) r in
-    let is : C ≡ code k m (columnsIn m (drop 2 card)) =
-    ap₂ (λ (x y : ℕ). code x y (columnsIn y (drop 2 card))) ek em in
+    let is : C ≡ codeIn k m (columnBytes card) =
+    ap₂ (λ (x y : ℕ). codeIn x y (columnBytes card)) ek em in
     record {
       is = is;
       sound = subst Sound is (s .0);

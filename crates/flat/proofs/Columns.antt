@@ -6,14 +6,14 @@ use mathlib.Core.List.{List, [], _∷_}
 use Prim.Native.Nat.{ℕ, _+_, _^_, _<_}
 use native.Mathlib.Omega.{arith}
 use lib.Dec.{T}
-use lib.ListN.{length, getD, drop}
+use lib.ListN.{length, getD}
 use lib.Pow.{pow-lt}
 use Rattle.gf2.specs.Sets.{bit, has}
 use Rattle.gf2.specs.Within.{lowest}
 use Rattle.gf2.proofs.Bits.{bit-pow-same, bit-pow-other, has-not, has-out}
 use Rattle.gf2.proofs.Subsets.{lowest-has, lowest-lt}
 use Rattle.gf2.proofs.Sums.{over-cong, over-zero, over-none, over-power}
-use Rattle.flat.specs.Cards.{Code, codeOf, disks, column, columnsIn}
+use Rattle.flat.specs.Cards.{Code, codeOf, disks, column, columnsIn, columnBytes}
 use Rattle.flat.specs.Erasures.{holdsBit}
 use Rattle.flat.specs.Equations.{equation, equations}
 use Rattle.flat.specs.Faults.{accepted, cardReport}
@@ -72,8 +72,8 @@ columns-ok : (card : List ℕ) (k m : ℕ) → cardReport card ≡ accepted (k �
 unfolding column
 columns-ok card k m ok =
     let a = accepted-card card k m ok in
-    let cs = columnsIn m (drop 2 card) in
-    let n : length cs ≡ m = length-columns m (drop 2 card) in
+    let cs = columnsIn m (columnBytes card) in
+    let n : length cs ≡ m = length-columns m (columnBytes card) in
     subst (λ (C : Code). (j : ℕ) → j < C .m → (getD (C .columns) j 0 ≢ 0) × (getD (C .columns) j 0 < 2 ^ C .k)) (sym (a .is))
     (λ j l. let c = column-in k (getD cs j 0) (none-bad k cs (omega (arith, a .sound .first)) j (omega arith)) in
     (λ e. omega (arith, c .0), c .1))

@@ -10,10 +10,14 @@ use native.Mathlib.Numerals.{add-one}
 use borrow.Author.Tests.{lt-ltb, le-ltb}
 use lib.Dec.{ltb}
 use lib.ListN.{length, getD, take, drop, set, replicate, length-append, length-drop, length-replicate, List·getD-append, List·getD-eq-default}
-use lib.Seq.{take-at, set-at, append-snoc, getD-append-add, ext-getD, getD-take, getD-drop, length-take-le, drop-append-add, drop-drop, paste, paste-zero}
+use lib.Seq.{take-at, set-at, append-snoc, getD-append-add, ext-getD, getD-take, getD-drop, length-take-le, drop-append-add, drop-drop, paste, paste-zero, take-all}
 use Rattle.gf2.specs.If.{if_then_else_}
 use Rattle.gf2.proofs.Tests.{below-or}
 use Rattle.flat.specs.Lists.{range, tabulate, padded, put, field}
+
+-- the bytes from n on, as code lends them
+pub rest : (n : ℕ) (l : List ℕ) → take (length l - n) (drop n l) ≡ drop n l
+rest n l = take-all (length l - n) (drop n l) (omega (arith, length-drop n l))
 
 -- ---- tables
 

@@ -5,7 +5,7 @@ use mathlib.Core.Path.{_≡_, refl, sym, ap, _∙_}
 use mathlib.Core.Bool.{Bool, true, false}
 use mathlib.Core.Logic.{_≢_, ⊎-elim}
 use mathlib.Core.List.{List, [], _∷_}
-use Prim.Native.Nat.{ℕ, suc, _≤_, _<_}
+use Prim.Native.Nat.{ℕ, suc, _-_, _≤_, _<_}
 use native.Mathlib.Omega.{arith}
 use borrow.Author.Tests.{lt-ltb, le-ltb, eqb-true, eqb-false}
 use lib.Dec.{T, eqb}
@@ -50,6 +50,13 @@ module _ {A : Type 0} where
 
   pub unless-other : (r : Report) (new old : A) → eqb (r .number) 0 ≡ false → old ≡ unlessRefused r new old
   unless-other r new old e = sym (unless-not r new old (eqb-false (r .number) 0 e))
+
+-- a report whose number is not 0 is a refusal by its number
+pub as-refused : (r : Report) → eqb (r .number) 0 ≡ false → r ≡ refused (suc (r .number - 1)) (r .values)
+as-refused r e =
+    let f = eqb-false (r .number) 0 e in
+    let z : r .number ≡ suc (r .number - 1) = omega arith in
+    ap (λ (n : ℕ). refused n (r .values)) z
 
 -- an accepted card's code is what the call works on
 pub with-accepted : (card : List ℕ) (ws : List ℕ) (f : Code → Report) → cardReport card ≡ accepted ws → withCard card f ≡ f (codeOf card)

@@ -9,9 +9,9 @@ use native.Mathlib.Omega.{arith}
 use borrow.Author.Tests.{eqb-true, eq-eqb, not-false}
 use lib.Dec.{eqb}
 use lib.Pow.{pow-mono}
-use lib.ListN.{length, getD, take, drop}
+use lib.ListN.{length, getD, take}
 use Rattle.flat.specs.Lists.{Bytes, padded, each, bytes}
-use Rattle.flat.specs.Cards.{Code, code, cardLength, cardBytes, columnsIn, codeOf}
+use Rattle.flat.specs.Cards.{Code, code, cardLength, cardBytes, columnsIn, codeOf, columnBytes, codeIn}
 use Rattle.flat.specs.Faults.{accepted, cardReport, cardColumns, cardWriteReport, cardWriteBuffer}
 use Rattle.flat.specs.Theorems.{CardReadsBack, CardWritesBack}
 use Rattle.flat.proofs.Lists.{take-padded}
@@ -70,13 +70,13 @@ reads-back C buffer e =
     )
 
 -- the columns that the card reader answers
-pub columns-read : (card : List ℕ) (k m : ℕ) → cardReport card ≡ accepted (k ∷ m ∷ []) → cardColumns card ≡ padded 16 (columnsIn m (drop 2 card))
+pub columns-read : (card : List ℕ) (k m : ℕ) → cardReport card ≡ accepted (k ∷ m ∷ []) → cardColumns card ≡ padded 16 (columnsIn m (columnBytes card))
 unfolding cardColumns
 columns-read card k m e =
     ap (padded 16)
     (unless-accepted (cardReport card) (k ∷ m ∷ []) (codeOf card .columns) [] e ∙ ap (λ (D : Code). D .columns) (accepted-card card k m e .is))
 
-pub card-bytes-back : (card : List ℕ) (k m : ℕ) → Bytes card → Accepted card k m → cardBytes (code k m (columnsIn m (drop 2 card))) ≡ card
+pub card-bytes-back : (card : List ℕ) (k m : ℕ) → Bytes card → Accepted card k m → cardBytes (codeIn k m (columnBytes card)) ≡ card
 unfolding cardBytes codeOf cardLength
 card-bytes-back [] k m b a = absurd (omega (arith, a .size))
 card-bytes-back (x ∷ []) k m b a = absurd (omega (arith, a .size))
@@ -90,9 +90,9 @@ pub writes-back : CardWritesBack
 unfolding cardWriteBuffer
 writes-back card k m b e buffer n =
     let a = accepted-card card k m e in
-    let C = code k m (columnsIn m (drop 2 card)) in
-    let many : length (columnsIn m (drop 2 card)) ≡ m = length-columns m (drop 2 card) in
-    let cs : take m (cardColumns card) ≡ columnsIn m (drop 2 card) = ap (take m) (columns-read card k m e) ∙ take-padded 16 m (columnsIn m (drop 2 card)) many in
+    let C = codeIn k m (columnBytes card) in
+    let many : length (columnsIn m (columnBytes card)) ≡ m = length-columns m (columnBytes card) in
+    let cs : take m (cardColumns card) ≡ columnsIn m (columnBytes card) = ap (take m) (columns-read card k m e) ∙ take-padded 16 m (columnsIn m (columnBytes card)) many in
     let ok : cardWriteReport C (length buffer) ≡ accepted [] =
     write-accepted C (length buffer) (record { sound = a .sound; many = many; size = n ∙ a .size }) in (
       ap (λ (l : List ℕ). cardWriteReport (code k m l) (length buffer)) cs ∙ ok,

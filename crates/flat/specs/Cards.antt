@@ -65,7 +65,15 @@ unfoldable pub columnsIn : ℕ → List ℕ → List ℕ
 unfolding tabulate field
 columnsIn m bs = tabulate m (λ j. field (2 * j) 2 bs)
 
+-- the code of k data disks and m parity disks whose columns stand in bytes
+abbrev pub codeIn : ℕ → ℕ → List ℕ → Code
+codeIn k m bs = code k m (columnsIn m bs)
+
+-- the bytes of a card's columns: those after the two counts
+abbrev pub columnBytes : List ℕ → List ℕ
+columnBytes card = drop 2 card
+
 -- the code that a card describes
 unfoldable pub codeOf : List ℕ → Code
 unfolding columnsIn
-codeOf card = code (getD card 0 0) (getD card 1 0) (columnsIn (getD card 1 0) (drop 2 card))
+codeOf card = codeIn (getD card 0 0) (getD card 1 0) (columnBytes card)

@@ -5,9 +5,8 @@ use mathlib.Core.Bool.{Bool, false}
 use mathlib.Core.List.{List, [], _∷_}
 use Prim.Native.Nat.{ℕ}
 use borrow.Author.Tests.{eq-eqb, ne-eqb}
-use lib.ListN.{drop}
 use Rattle.flat.specs.Lists.{padded, same}
-use Rattle.flat.specs.Cards.{Code, code, columnsIn}
+use Rattle.flat.specs.Cards.{Code, columnBytes, codeIn}
 use Rattle.flat.specs.Erasures.{vector}
 use Rattle.flat.specs.Alike.{alike}
 use Rattle.flat.specs.Faults.{Report, accepted, yesNo, withCard, alikeReport, cardReport}
@@ -28,7 +27,7 @@ alike-first first second f e = sym (bad-card first f (λ A. withCard second (ans
 
 module _ (first second : List ℕ) (k m : ℕ) (g : GoodCard first k m) where
   abbrev A : Code
-  A = code k m (columnsIn m (drop 2 first))
+  A = codeIn k m (columnBytes first)
 
   alike-with : alikeReport first second ≡ withCard second (answer A)
   unfolding alikeReport
@@ -39,7 +38,7 @@ module _ (first second : List ℕ) (k m : ℕ) (g : GoodCard first k m) where
 
   module _ (k′ m′ : ℕ) (h : GoodCard second k′ m′) where
     abbrev B : Code
-    B = code k′ m′ (columnsIn m′ (drop 2 second))
+    B = codeIn k′ m′ (columnBytes second)
 
     -- the report of a verdict that is right
     pub alike-both : (t : Bool) → t ≡ alike A B → accepted (yesNo t ∷ []) ≡ alikeReport first second

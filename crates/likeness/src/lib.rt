@@ -43,8 +43,8 @@ pub fn alike(first: &[u8], second: &[u8]) -> Likeness
                 if m != parity {
                     return Likeness::Different;
                 }
-                let a = erasures::count_columns(&first[2..], k, m);
-                let b = erasures::count_columns(&second[2..], k, m);
+                let a = erasures::count_columns(card::columns(first), k, m);
+                let b = erasures::count_columns(card::columns(second), k, m);
                 if equal(a, b) {
                     return Likeness::Alike;
                 }

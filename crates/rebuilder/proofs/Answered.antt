@@ -6,8 +6,8 @@ use mathlib.Core.Logic.{_≢_}
 use mathlib.Core.List.{List, []}
 use Prim.Native.Nat.{ℕ, _+_, _*_, _^_}
 use lib.Dec.{ltb}
-use lib.ListN.{length, drop}
-use Rattle.flat.specs.Cards.{Code, code, disks, setOk, codeOf, columnsIn}
+use lib.ListN.{length}
+use Rattle.flat.specs.Cards.{Code, code, disks, setOk, codeOf, columnBytes, codeIn}
 use Rattle.flat.specs.Strips.{lengthOk}
 use Rattle.flat.specs.Rebuilding.{agreeing, restored}
 use Rattle.flat.specs.Faults.{Report, unlessRefused, refused, cardReport, disksReport, rebuildTests, rebuildReport, rebuildStripe}
@@ -39,12 +39,12 @@ module _ (k m : ℕ) (columns : List ℕ) (L S : ℕ) (stripe : List ℕ) where
   past-report p = sym (tests-past C L S (length stripe) (disksReport C L S stripe) p)
 
 pub good-report : (card : List ℕ) (k m L S : ℕ) (stripe : List ℕ) → GoodCard card k m
-    → rebuildReport card L S stripe ≡ rebuildTests (code k m (columnsIn m (drop 2 card))) L S stripe
+    → rebuildReport card L S stripe ≡ rebuildTests (codeIn k m (columnBytes card)) L S stripe
 unfolding rebuildReport
 good-report card k m L S stripe g = good-with card k m (λ C. rebuildTests C L S stripe) g
 
 pub good-stripe : (card : List ℕ) (k m L S : ℕ) (stripe : List ℕ) (r : Report) → GoodCard card k m → r ≡ rebuildReport card L S stripe
-    → unlessRefused r (restored (code k m (columnsIn m (drop 2 card))) L S stripe (agreeing (code k m (columnsIn m (drop 2 card))) L S stripe)) stripe
+    → unlessRefused r (restored (codeIn k m (columnBytes card)) L S stripe (agreeing (codeIn k m (columnBytes card)) L S stripe)) stripe
     ≡ rebuildStripe card L S stripe
 unfolding rebuildStripe
 good-stripe card k m L S stripe r g e =

@@ -5,12 +5,12 @@
 // (crate repairs); the strips are read and written by these sets alone (crate strips), and no byte is
 // written before every refusal is decided.
 ghost use mathlib.Core.Path.{_≡_};
-ghost use Prim.Native.Nat.{ℕ, _+_, _*_, _^_, _<_, _≤_};
+ghost use Prim.Native.Nat.{_+_, _*_, _^_, _<_, _≤_};
 ghost use lib.ListN.{length};
-ghost use Rattle.flat.specs.Lists.{field};
-ghost use Rattle.flat.specs.Cards.{code, columnsIn};
+ghost use Rattle.flat.specs.Cards.{codeIn};
 ghost use Rattle.flat.specs.Rebuilding.{agreeing, restored};
 ghost use Rattle.flat.specs.Faults.{unlessRefused, disksReport, rebuildTests, rebuildReport, rebuildStripe};
+ghost use Rattle.card.specs.Columns.{Columns};
 ghost use Rattle.rebuilder.specs.Reports.{rebuiltReport};
 use card::CardCheck;
 use card::CardFault;
@@ -31,11 +31,10 @@ pub enum Rebuilt {
 // no content encodes to the survivors where a check word among them does not vanish. Else each lost strip
 // is filled by its equation.
 fn restore(columns: &[u8], k: usize, m: usize, l: usize, lost: u32, stripe: &mut [u8]) -> Rebuilt
-    requires { ⌜ (1 ≤ k) × (k ≤ 16) × (m ≤ 16) × (2 * m ≤ length (now columns)) ⌝ }
-    requires { ⌜ ((j : ℕ) → j < m → field (2 * j) 2 (now columns) < 2 ^ k) ⌝ }
+    requires { ⌜ Columns k m (now columns) ⌝ }
     requires { ⌜ (1 ≤ l) × (l ≤ 65536) × (lost < 2 ^ (k + m)) × (length (now stripe) ≡ (k + m) * l) ⌝ }
-    ensures { λ r. ⌜ rebuiltReport r ≡ disksReport (code k m (columnsIn m (now (columns .entry)))) l lost (now (stripe .entry)) ⌝ }
-    ensures { λ r. ⌜ now (stripe .exit) ≡ unlessRefused (rebuiltReport r) (restored (code k m (columnsIn m (now (columns .entry)))) l lost (now (stripe .entry)) (agreeing (code k m (columnsIn m (now (columns .entry)))) l lost (now (stripe .entry)))) (now (stripe .entry)) ⌝ }
+    ensures { λ r. ⌜ rebuiltReport r ≡ disksReport (codeIn k m (now (columns .entry))) l lost (now (stripe .entry)) ⌝ }
+    ensures { λ r. ⌜ now (stripe .exit) ≡ unlessRefused (rebuiltReport r) (restored (codeIn k m (now (columns .entry))) l lost (now (stripe .entry)) (agreeing (codeIn k m (now (columns .entry))) l lost (now (stripe .entry)))) (now (stripe .entry)) ⌝ }
 {
     let n = k + m;
     if repairs::undetermined(bases::rows(columns, k, m), lost) != 0 {
@@ -61,10 +60,9 @@ fn rebuild_columns(
     lost: u32,
     stripe: &mut [u8],
 ) -> Rebuilt
-    requires { ⌜ (1 ≤ k) × (k ≤ 16) × (m ≤ 16) × (2 * m ≤ length (now columns)) ⌝ }
-    requires { ⌜ ((j : ℕ) → j < m → field (2 * j) 2 (now columns) < 2 ^ k) ⌝ }
-    ensures { λ r. ⌜ rebuiltReport r ≡ rebuildTests (code k m (columnsIn m (now (columns .entry)))) l lost (now (stripe .entry)) ⌝ }
-    ensures { λ r. ⌜ now (stripe .exit) ≡ unlessRefused (rebuiltReport r) (restored (code k m (columnsIn m (now (columns .entry)))) l lost (now (stripe .entry)) (agreeing (code k m (columnsIn m (now (columns .entry)))) l lost (now (stripe .entry)))) (now (stripe .entry)) ⌝ }
+    requires { ⌜ Columns k m (now columns) ⌝ }
+    ensures { λ r. ⌜ rebuiltReport r ≡ rebuildTests (codeIn k m (now (columns .entry))) l lost (now (stripe .entry)) ⌝ }
+    ensures { λ r. ⌜ now (stripe .exit) ≡ unlessRefused (rebuiltReport r) (restored (codeIn k m (now (columns .entry))) l lost (now (stripe .entry)) (agreeing (codeIn k m (now (columns .entry))) l lost (now (stripe .entry)))) (now (stripe .entry)) ⌝ }
 {
     if !card::length_ok(l) {
         return Rebuilt::StripLength;
@@ -85,6 +83,6 @@ pub fn rebuild(card: &[u8], l: usize, lost: u32, stripe: &mut [u8]) -> Rebuilt
 {
     match card::check(card) {
         CardCheck::Bad(fault) => Rebuilt::Card(fault),
-        CardCheck::Good { k, m } => rebuild_columns(&card[2..], k, m, l, lost, stripe),
+        CardCheck::Good { k, m } => rebuild_columns(card::columns(card), k, m, l, lost, stripe),
     }
 }

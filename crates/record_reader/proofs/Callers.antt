@@ -1,47 +1,45 @@
 -- What a caller of the reader's check knows from its answer: of a good record its counts and its card, and of a bad one that its fault
 -- is what the caller's call answers.
 -- Assumes nothing.
-use mathlib.Core.Path.{_≡_, sym, ap, ap₂, _∙_}
+use mathlib.Core.Path.{_≡_, refl, sym, ap, ap₂, _∙_}
+use mathlib.Core.Bool.{false}
 use mathlib.Core.List.{List, [], _∷_}
 use Prim.Native.Nat.{ℕ, _+_, _-_, _*_, _≤_}
 use native.Mathlib.Omega.{arith}
+use lib.Dec.{eqb}
 use lib.ListN.{length, take, drop, replicate}
 use Rattle.flat.specs.Lists.{padded}
 use Rattle.flat.specs.Cards.{Code, codeOf, cardLength}
 use Rattle.record_format.specs.Records.{entryCount, bodiesAt, stripsAt, bodyAt, offsetIn, bodyLengthIn, bodyIn}
 use Rattle.flat.specs.Faults.{Report, accepted, unlessRefused, cardReport, cardColumns}
 use Rattle.record_format.specs.Faults.{withRecord, recordReport, recordColumns}
-use Rattle.flat.proofs.Reports.{unless-accepted, unless-refused}
+use Rattle.flat.proofs.Reports.{unless-accepted, unless-other, as-refused}
 use Rattle.flat.proofs.Lengths.{length-in}
 use Rattle.record_format.proofs.Received.{Received, received, with-refused-record}
-use Rattle.card.specs.declared.CardFault.the-variants as card
-use Rattle.card.proofs.Laws.{unless-fault}
+use Rattle.card.proofs.Laws.{fault-refuses}
 use Rattle.record_reader.specs.declared.RecordFault.{RecordFault}
 use Rattle.record_reader.specs.declared.RecordFault.the-variants as fault
 use Rattle.record_reader.specs.Reports.{recordFaultReport}
 
 -- ---- a bad record
 
+-- a fault's number is not 0
+bad-refuses : (f : RecordFault) → eqb (recordFaultReport f .number) 0 ≡ false
+bad-refuses fault.Mark = refl
+bad-refuses fault.StripLength = refl
+bad-refuses fault.Contents = refl
+bad-refuses (fault.Card f) = fault-refuses f
+bad-refuses fault.FileLength = refl
+
 -- a report that is a fault's refuses
 module _ {A : Type 0} where
   pub unless-bad : (f : RecordFault) (r : Report) (new old : A) → recordFaultReport f ≡ r → unlessRefused r new old ≡ old
-  unless-bad fault.Mark r new old e = unless-refused r _ _ new old (sym e)
-  unless-bad fault.StripLength r new old e = unless-refused r _ _ new old (sym e)
-  unless-bad fault.Contents r new old e = unless-refused r _ _ new old (sym e)
-  unless-bad (fault.Card f) r new old e = unless-fault f r new old e
-  unless-bad fault.FileLength r new old e = unless-refused r _ _ new old (sym e)
+  unless-bad f r new old e = sym (unless-other r new old (ap (λ (x : Report). eqb (x .number) 0) (sym e) ∙ bad-refuses f))
 
 pub bad-record : (file : List ℕ) (f : RecordFault) (answer : Code → Report) → recordFaultReport f ≡ recordReport file
     → withRecord file answer ≡ recordFaultReport f
-bad-record file fault.Mark answer e = with-refused-record file _ _ answer (sym e)
-bad-record file fault.StripLength answer e = with-refused-record file _ _ answer (sym e)
-bad-record file fault.Contents answer e = with-refused-record file _ _ answer (sym e)
-bad-record file (fault.Card card.Short) answer e = with-refused-record file _ _ answer (sym e)
-bad-record file (fault.Card card.DataCount) answer e = with-refused-record file _ _ answer (sym e)
-bad-record file (fault.Card card.ParityCount) answer e = with-refused-record file _ _ answer (sym e)
-bad-record file (fault.Card card.Length) answer e = with-refused-record file _ _ answer (sym e)
-bad-record file (fault.Card (card.Column j)) answer e = with-refused-record file _ _ answer (sym e)
-bad-record file fault.FileLength answer e = with-refused-record file _ _ answer (sym e)
+bad-record file f answer e =
+    let r = as-refused (recordFaultReport f) (bad-refuses f) in with-refused-record file _ _ answer (sym e ∙ r) ∙ sym r
 
 -- it has no columns
 pub columns-none : (file : List ℕ) (f : RecordFault) → recordFaultReport f ≡ recordReport file → replicate 16 0 ≡ recordColumns file

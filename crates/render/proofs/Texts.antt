@@ -12,11 +12,11 @@ use Rattle.flat.specs.Erasures.{erasures, vector}
 use Rattle.flat.specs.Faults.{Report, accepted, refused, cardReport, listReport, listSlice, erasuresReport, erasuresVector, erasuresSlice}
 use Rattle.flat.proofs.Lists.{take-padded}
 use Rattle.flat.proofs.Reports.{unless-accepted, unless-refused, with-accepted, list-counted}
-use Rattle.flat.proofs.Cards.{Accepted, accepted-card, count-in}
 use Rattle.flat.proofs.Verdicts.{erasures-written}
 use Rattle.card.specs.declared.CardFault.{CardFault}
 use Rattle.card.specs.Reports.{faultReport}
 use Rattle.card.proofs.Laws.{unless-fault}
+use Rattle.card.proofs.Callers.{GoodCard, good}
 use Rattle.erasures.proofs.Enumerated.{vector-length}
 use Rattle.bounds.proofs.ListLengths.{erasures-few}
 use Rattle.text.specs.Text.{listingText, refusedText}
@@ -39,18 +39,18 @@ module _ (card : List ℕ) (k m : ℕ) (ok : cardReport card ≡ accepted (k ∷
   abbrev C : Code
   C = codeOf card
 
-  good : Accepted card k m
-  good = accepted-card card k m ok
+  known : GoodCard card k m
+  known = good card k m (sym ok)
 
   pub counts : (1 ≤ k) × (k ≤ 16) × (m ≤ 16)
-  counts = let a = count-in k (good .sound .k-ok) in (a .0, a .1, count-in m (good .sound .m-ok) .1)
+  counts = let a = known .columns in (a .0, a .1, a .3)
 
   -- the list is that of a code with these counts
   data-disks : C .k ≡ k
-  data-disks = ap (λ (D : Code). D .k) (good .is)
+  data-disks = ap (λ (D : Code). D .k) (known .is)
 
   parity-disks : C .m ≡ m
-  parity-disks = ap (λ (D : Code). D .m) (good .is)
+  parity-disks = ap (λ (D : Code). D .m) (known .is)
 
   module _ (slice : List ℕ) (count : ℕ) (e : accepted (count ∷ []) ≡ erasuresReport card (length slice)) where
     counted : (length (erasures C) ≡ count) × (count ≤ length slice)

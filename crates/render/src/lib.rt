@@ -6,26 +6,11 @@ ghost use mathlib.Core.Path.{_≡_};
 ghost use mathlib.Core.List.{[], _∷_};
 ghost use lib.ListN.{length};
 ghost use Rattle.flat.specs.Faults.{accepted, cardReport, erasuresSlice};
-ghost use Rattle.card.specs.Reports.{faultReport};
 ghost use Rattle.text.specs.Answers.{textAnswer, textBuffer};
 ghost use Rattle.render.specs.Printed.{printed, shownPart};
 use card::CardCheck;
-use card::CardFault;
 use erasures::Listed;
 use text::Text;
-
-// The number of a card's fault.
-fn number(fault: CardFault) -> usize
-    ensures { λ r. ⌜ r ≡ faultReport fault .number ⌝ }
-{
-    match fault {
-        CardFault::Short => 1,
-        CardFault::DataCount => 2,
-        CardFault::ParityCount => 3,
-        CardFault::Length => 4,
-        CardFault::Column(_) => 5,
-    }
-}
 
 // The text for a card that the check found good.
 fn listing(card: &[u8], k: usize, m: usize, entries: &mut [u32], out: &mut [u8]) -> Text
@@ -40,7 +25,7 @@ fn listing(card: &[u8], k: usize, m: usize, entries: &mut [u32], out: &mut [u8])
     match answer {
         Listed::Count(count) => text::listing(k, m, &entries[..count], &vector[..m], out),
         Listed::Short(_) => text::refused(10, out),
-        Listed::Card(fault) => text::refused(number(fault), out),
+        Listed::Card(fault) => text::refused(card::number(fault), out),
     }
 }
 
@@ -52,7 +37,7 @@ pub fn render(card: &[u8], entries: &mut [u32], out: &mut [u8]) -> Text
     ensures { λ _. ⌜ now (entries .exit) ≡ erasuresSlice (now (card .entry)) (now (entries .entry)) ⌝ }
 {
     match card::check(card) {
-        CardCheck::Bad(fault) => text::refused(number(fault), out),
+        CardCheck::Bad(fault) => text::refused(card::number(fault), out),
         CardCheck::Good { k, m } => listing(card, k, m, entries, out),
     }
 }

@@ -6,11 +6,10 @@ use mathlib.Core.List.{List, [], _∷_}
 use mathlib.Core.Logic.{_≢_}
 use Prim.Native.Nat.{ℕ, _+_, _^_}
 use lib.Dec.{ltb}
-use lib.ListN.{drop}
 use Rattle.gf2.specs.Sets.{union}
 use Rattle.gf2.specs.Within.{within}
 use Rattle.gf2.proofs.Tests.{T-true, T-false}
-use Rattle.flat.specs.Cards.{code, disks, setOk, columnsIn}
+use Rattle.flat.specs.Cards.{code, disks, setOk, columnBytes, codeIn}
 use Rattle.flat.specs.Erasures.{fatal}
 use Rattle.flat.specs.Spans.{rows}
 use Rattle.flat.specs.Faults.{accepted, refused, yesNo, cardReport, verdictTests, verdictReport}
@@ -36,7 +35,7 @@ module _ (k m : ℕ) (columns : List ℕ) (S : ℕ) where
     no-report z =
         let C = code k m columns in simp (inside, T-false {b = fatal C S} (λ t. undetermined-fatal C S bs r is e .0 t z))
 
-pub good-report : (card : List ℕ) (k m S : ℕ) → GoodCard card k m → verdictTests (code k m (columnsIn m (drop 2 card))) S ≡ verdictReport card S
+pub good-report : (card : List ℕ) (k m S : ℕ) → GoodCard card k m → verdictTests (codeIn k m (columnBytes card)) S ≡ verdictReport card S
 unfolding verdictReport
 good-report card k m S g = sym (good-with card k m (λ C. verdictTests C S) g)
 

@@ -3,10 +3,9 @@
 // Every byte string and set is a legal argument. What is answered for which input is said in
 // flat/specs/Faults.antt.
 ghost use mathlib.Core.Path.{_≡_};
-ghost use Prim.Native.Nat.{_*_, _≤_};
-ghost use lib.ListN.{length};
-ghost use Rattle.flat.specs.Cards.{code, columnsIn};
+ghost use Rattle.flat.specs.Cards.{codeIn};
 ghost use Rattle.flat.specs.Faults.{verdictTests, verdictReport as verdictOf};
+ghost use Rattle.card.specs.Columns.{Columns};
 ghost use Rattle.verdicts.specs.Reports.{verdictReport};
 use card::CardCheck;
 use card::CardFault;
@@ -21,8 +20,8 @@ pub enum SetVerdict {
 
 // The verdict, on the columns of an accepted card: a set is fatal where some disk stays undetermined.
 fn verdict_columns(columns: &[u8], k: usize, m: usize, set: u32) -> SetVerdict
-    requires { ⌜ (k ≤ 16) × (m ≤ 16) × (2 * m ≤ length (now columns)) ⌝ }
-    ensures { λ r. ⌜ verdictReport r ≡ verdictTests (code k m (columnsIn m (now (columns .entry)))) set ⌝ }
+    requires { ⌜ Columns k m (now columns) ⌝ }
+    ensures { λ r. ⌜ verdictReport r ≡ verdictTests (codeIn k m (now (columns .entry))) set ⌝ }
 {
     if !gf2::below(set, (k + m) as u32) {
         return SetVerdict::OutsideSet;
@@ -39,6 +38,6 @@ pub fn verdict(card: &[u8], set: u32) -> SetVerdict
 {
     match card::check(card) {
         CardCheck::Bad(fault) => SetVerdict::Card(fault),
-        CardCheck::Good { k, m } => verdict_columns(&card[2..], k, m, set),
+        CardCheck::Good { k, m } => verdict_columns(card::columns(card), k, m, set),
     }
 }

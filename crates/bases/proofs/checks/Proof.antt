@@ -9,7 +9,7 @@ use lib.ListN.{length, take}
 use lib.Pow.{pow-mono}
 use Rattle.gf2.proofs.Bits.{one-shifted}
 use Rattle.flat.specs.Lists.{padded, tabulate}
-use Rattle.flat.specs.Cards.{code, columnsIn}
+use Rattle.flat.specs.Cards.{codeIn}
 use Rattle.flat.specs.Spans.{check, checks}
 use Rattle.flat.proofs.Lists.{fill-none, fill-more, length-tabulate, take-padded}
 use Rattle.bases.proofs.Adding.{add-fits, check-sum}
@@ -19,7 +19,7 @@ use Rattle.bases.proofs.checks.Tie as tie
 
 abbrev Inv-loop : tie.InvT-loop
 Inv-loop columns k m out₀ j₀ out j =
-    (j ≤ m) × (length out ≡ 16) × (out ≡ padded 16 (tabulate j (check (code k m (columnsIn m columns)))))
+    (j ≤ m) × (length out ≡ 16) × (out ≡ padded 16 (tabulate j (check (codeIn k m columns))))
 
 abbrev μ-loop : tie.MeasureT-loop
 μ-loop columns k m out₀ j₀ out j = m - j
@@ -51,7 +51,7 @@ jOf c = c .before .before .loop .j
 
 small : (c : tie.After-column Inv-loop μ-loop) → c .column .result < 2 ^ kOf c
 small c =
-    subst (λ (x : ℕ). x < 2 ^ kOf c) (sym (c .column .ensures)) (c .before .before .before .before .pre .1 (jOf c) (omega arith))
+    subst (λ (x : ℕ). x < 2 ^ kOf c) (sym (c .column .ensures)) (c .before .before .before .before .pre .5 (jOf c) (omega arith))
 
 add-out-2 : tie.Need-add-out-2 Inv-loop μ-loop
 add-out-2 c =
@@ -79,12 +79,12 @@ loop-again c =
     let h : kOf c + jOf c < 32 = omega arith in
     let l = c .before .before .loop in
     let a = c .before .before .before .before .args in
-    let v : c .column .result + 2 ^ (kOf c + jOf c) ≡ check (code (a .k) (a .m) (columnsIn (a .m) (now (a .columns)))) (jOf c) =
+    let v : c .column .result + 2 ^ (kOf c + jOf c) ≡ check (codeIn (a .k) (a .m) (now (a .columns))) (jOf c) =
     ap (λ (x : ℕ). x + 2 ^ (kOf c + jOf c)) (c .column .ensures)
-    ∙ check-sum (a .k) (a .m) (jOf c) (now (a .columns)) (omega arith) (c .before .before .before .before .pre .1 (jOf c) (omega arith)) in (
+    ∙ check-sum (a .k) (a .m) (jOf c) (now (a .columns)) (omega arith) (c .before .before .before .before .pre .5 (jOf c) (omega arith)) in (
       omega arith,
       search needs,
-      fill-more 16 (jOf c) _ (check (code (a .k) (a .m) (columnsIn (a .m) (now (a .columns))))) (l .out) (omega arith) (l .inv .2)
+      fill-more 16 (jOf c) _ (check (codeIn (a .k) (a .m) (now (a .columns)))) (l .out) (omega arith) (l .inv .2)
           (ap (λ (x : ℕ). c .column .result + x) (one-shifted (kOf c + jOf c) h) ∙ v),
     )
 
@@ -93,7 +93,7 @@ unfolding checks
 returns c =
     let l = c .before .loop in
     let a = c .before .before .before .args in
-    let f = check (code (a .k) (a .m) (columnsIn (a .m) (now (a .columns)))) in
+    let f = check (codeIn (a .k) (a .m) (now (a .columns))) in
     let e : l .j ≡ a .m = omega arith in
     (refl, ap (take (a .m)) (l .inv .2 ∙ ap (λ (n : ℕ). padded 16 (tabulate n f)) e) ∙ take-padded 16 (a .m) (tabulate (a .m) f) (length-tabulate (a .m) f))
 

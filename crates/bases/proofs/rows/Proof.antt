@@ -6,7 +6,7 @@ use native.Mathlib.Omega.{arith}
 use denote.Ref.{now}
 use lib.ListN.{length, take}
 use Rattle.flat.specs.Lists.{padded, tabulate}
-use Rattle.flat.specs.Cards.{code, columnsIn}
+use Rattle.flat.specs.Cards.{codeIn}
 use Rattle.flat.specs.Spans.{row, rows}
 use Rattle.flat.proofs.Lists.{fill-none, fill-more, length-tabulate, take-padded}
 use borrow.Author.Needs.{needs}
@@ -15,7 +15,7 @@ use Rattle.bases.proofs.rows.Tie as tie
 
 abbrev Inv-loop : tie.InvT-loop
 Inv-loop columns k m out₀ i₀ out i =
-    (i ≤ k) × (length out ≡ 16) × (out ≡ padded 16 (tabulate i (row (code k m (columnsIn m columns)))))
+    (i ≤ k) × (length out ≡ 16) × (out ≡ padded 16 (tabulate i (row (codeIn k m columns))))
 
 abbrev μ-loop : tie.MeasureT-loop
 μ-loop columns k m out₀ i₀ out i = k - i
@@ -44,7 +44,7 @@ loop-again c =
     let a = c .before .before .before .before .args in (
       omega arith,
       search needs,
-      fill-more 16 (l .i) _ (row (code (a .k) (a .m) (columnsIn (a .m) (now (a .columns))))) (l .out) (omega arith) (l .inv .2) (c .row .ensures),
+      fill-more 16 (l .i) _ (row (codeIn (a .k) (a .m) (now (a .columns)))) (l .out) (omega arith) (l .inv .2) (c .row .ensures),
     )
 
 returns : tie.Need-returns Inv-loop μ-loop
@@ -52,7 +52,7 @@ unfolding rows
 returns c =
     let l = c .before .loop in
     let a = c .before .before .before .args in
-    let f = row (code (a .k) (a .m) (columnsIn (a .m) (now (a .columns)))) in
+    let f = row (codeIn (a .k) (a .m) (now (a .columns))) in
     let e : l .i ≡ a .k = omega arith in
     (refl, ap (take (a .k)) (l .inv .2 ∙ ap (λ (n : ℕ). padded 16 (tabulate n f)) e) ∙ take-padded 16 (a .k) (tabulate (a .k) f) (length-tabulate (a .k) f))
 

@@ -8,13 +8,13 @@ use native.Mathlib.Omega.{arith}
 use borrow.Author.Tests.{not-true, not-false, eq-eqb, ne-eqb}
 use borrow.Author.Needs.{needs}
 use denote.Ref.{now}
-use lib.ListN.{length, getD, take, drop, length-drop}
+use lib.ListN.{length, getD, take, length-drop}
 use lib.Seq.{length-take-le}
 use Rattle.flat.specs.Lists.{padded}
-use Rattle.flat.specs.Cards.{countOk, firstBad, columnsIn}
+use Rattle.flat.specs.Cards.{countOk, firstBad, columnsIn, columnBytes}
 use Rattle.flat.proofs.Lists.{length-padded, take-padded}
 use Rattle.flat.proofs.Cards.{count-in, length-columns}
-use Rattle.card.proofs.Laws.{code-data, code-parity, code-length, code-column, code-good, card-short, card-tests, rest}
+use Rattle.card.proofs.Laws.{code-data, code-parity, code-length, code-column, code-good, card-short, card-tests}
 use Rattle.card.proofs.check.Statement.{statement}
 use Rattle.card.proofs.check.Tie as tie
 
@@ -71,36 +71,30 @@ returns-4 c =
     let e = c .before in
     card-tests _ (long (e .before .before)) (code-length _ _ _ (k-good (e .before .before)) (m-good e) (ne-eqb _ _ (c .if4 .taken)))
 
-sub-columns-of : tie.Need-sub-columns-of
-sub-columns-of c = search needs
-
-part-columns-of-start : tie.Need-part-columns-of-start
-part-columns-of-start c = search needs
-
-part-columns-of-end : tie.Need-part-columns-of-end
-part-columns-of-end c = search needs
+columns-requires : tie.Need-columns-requires
+columns-requires c κs = search needs
 
 columns-of-requires : tie.Need-columns-of-requires
 columns-of-requires c κs =
     let e = c .before in
     let card = cardAt (e .before .before .before) in
-    (count-in _ (m-good (e .before)) .1, rw rest (omega (arith, length-drop 2 card, e .if4 .left)))
+    (count-in _ (m-good (e .before)) .1, rw (c .columns .ensures) (omega (arith, length-drop 2 card, e .if4 .left)))
 
 -- the columns that the search is lent are the card's
 abbrev cardOf : tie.After-columns-of → List ℕ
 cardOf c = cardAt (c .before .before .before .before .before)
 
-columns-are : (c : tie.After-columns-of) → c .columns-of .result ≡ padded 16 (columnsIn (getD (cardOf c) 1 0) (drop 2 (cardOf c)))
-columns-are c = c .columns-of .ensures ∙ rw rest
+columns-are : (c : tie.After-columns-of) → c .columns-of .result ≡ padded 16 (columnsIn (getD (cardOf c) 1 0) (columnBytes (cardOf c)))
+columns-are c = c .columns-of .ensures ∙ rw (c .before .columns .ensures)
 
 many : (c : tie.After-columns-of) → (getD (cardOf c) 1 0 ≤ 16) × (length (c .columns-of .result) ≡ 16)
 many c =
     let h = count-in _ (m-good (c .before .before .before)) .1 in
-    let n = length-columns (getD (cardOf c) 1 0) (drop 2 (cardOf c)) in
+    let n = length-columns (getD (cardOf c) 1 0) (columnBytes (cardOf c)) in
     (h, ap length (columns-are c) ∙ length-padded 16 _ (omega arith))
 
-array-share-prefix-columns : tie.Need-array-share-prefix-columns
-array-share-prefix-columns c = omega (arith, many c)
+array-share-prefix-all : tie.Need-array-share-prefix-all
+array-share-prefix-all c = omega (arith, many c)
 
 slice-aggregate-first-bad : tie.Need-slice-aggregate-first-bad
 slice-aggregate-first-bad c = sym (length-take-le _ _ (omega (arith, many (c .before))))
@@ -110,12 +104,12 @@ first-bad-requires c κs = count-in _ (k-good (c .before .before .before .before
 
 bad-is : (c : tie.After-first-bad) →
     let card = cardOf (c .before .before) in
-    c .first-bad .result ≡ firstBad (getD card 0 0) (columnsIn (getD card 1 0) (drop 2 card))
+    c .first-bad .result ≡ firstBad (getD card 0 0) (columnsIn (getD card 1 0) (columnBytes card))
 bad-is c =
     let card = cardOf (c .before .before) in
     let m = getD card 1 0 in
     c .first-bad .ensures
-    ∙ ap (firstBad (getD card 0 0)) (ap (take m) (columns-are (c .before .before)) ∙ take-padded 16 m _ (length-columns m (drop 2 card)))
+    ∙ ap (firstBad (getD card 0 0)) (ap (take m) (columns-are (c .before .before)) ∙ take-padded 16 m _ (length-columns m (columnBytes card)))
 
 returns-5 : tie.Need-returns-5
 returns-5 c =
@@ -145,11 +139,9 @@ check-spec =
     mul-if4
     add-if4
     returns-4
-    sub-columns-of
-    part-columns-of-start
-    part-columns-of-end
+    columns-requires
     columns-of-requires
-    array-share-prefix-columns
+    array-share-prefix-all
     slice-aggregate-first-bad
     first-bad-requires
     returns-5

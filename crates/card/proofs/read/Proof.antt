@@ -6,15 +6,12 @@ use Prim.Native.Nat.{ℕ}
 use native.Mathlib.Omega.{arith}
 use borrow.Author.Needs.{needs}
 use denote.Ref.{now}
-use lib.ListN.{length-drop}
-use Rattle.flat.specs.Cards.{cardLength}
 use Rattle.flat.specs.Faults.{cardReport}
-use Rattle.flat.proofs.Cards.{Accepted, count-in}
 use Rattle.flat.proofs.RoundTrip.{columns-read}
 use Rattle.card.specs.declared.CardCheck.the-variants.{Good}
 use Rattle.card.specs.Reports.{checkReport}
-use Rattle.card.proofs.Laws.{columns-refused, rest}
-use Rattle.card.proofs.Callers.{good-card}
+use Rattle.card.proofs.Laws.{columns-refused}
+use Rattle.card.proofs.Callers.{GoodCard, good}
 use Rattle.card.proofs.read.Statement.{statement}
 use Rattle.card.proofs.read.Tie as tie
 
@@ -34,25 +31,16 @@ cardAt c = now (c .before .before .before .before .before .args .card)
 found : (c : tie.After-known-told) → checkReport (Good (c .before .check2 .given .0 .0) (c .before .check2 .given .0 .1 .0)) ≡ cardReport (cardAt c)
 found c = ap checkReport (sym (c .before .check2 .given .1)) ∙ c .before .before .before .check .ensures
 
-good : (c : tie.After-known-told) → Accepted (cardAt c) (c .before .check2 .given .0 .0) (c .before .check2 .given .0 .1 .0)
-good c = good-card _ _ _ (found c)
+known : (c : tie.After-known-told) → GoodCard (cardAt c) (c .before .check2 .given .0 .0) (c .before .check2 .given .0 .1 .0)
+known c = good _ _ _ (found c)
 
-sub-columns-of : tie.Need-sub-columns-of
-unfolding cardLength
-sub-columns-of c = omega (arith, good c .size)
-
-part-columns-of-start : tie.Need-part-columns-of-start
-unfolding cardLength
-part-columns-of-start c = omega (arith, good c .size)
-
-part-columns-of-end : tie.Need-part-columns-of-end
-part-columns-of-end c = search needs
+columns-requires : tie.Need-columns-requires
+columns-requires c κs = omega (arith, known c .size)
 
 columns-of-requires : tie.Need-columns-of-requires
-unfolding cardLength
 columns-of-requires c κs =
-    let g = good (c .before) in
-    (count-in _ (g .sound .m-ok) .1, rw rest (omega (arith, length-drop 2 (cardAt (c .before)), g .size)))
+    let g = known (c .before) .columns in
+    (g .3, rw (c .columns .ensures) (omega (arith, g .4)))
 
 returns : tie.Need-returns
 returns c =
@@ -62,7 +50,7 @@ returns c =
 returns-2 : tie.Need-returns-2
 returns-2 c =
     let e = found (c .before .before) in
-    (e, c .columns-of .ensures ∙ rw rest (sym (columns-read _ _ _ (sym e))))
+    (e, c .columns-of .ensures ∙ rw (c .before .columns .ensures) (sym (columns-read _ _ _ (sym e))))
 
 pub read-spec : {M : Type 1} → statement M
 read-spec =
@@ -71,9 +59,7 @@ read-spec =
     check-requires
     enum-told
     enum-known-check
-    sub-columns-of
-    part-columns-of-start
-    part-columns-of-end
+    columns-requires
     columns-of-requires
     returns
     returns-2)

@@ -1,53 +1,25 @@
 -- `codes::fault_code` meets its contract. Assumes nothing.
+use mathlib.Core.Path.{ap₂, _∙_}
+use Prim.Native.Nat.{ℕ, _+_, _*_}
 use borrow.Author.Needs.{needs}
 use Rattle.codes.proofs.fault_code.Statement.{statement}
 use Rattle.codes.proofs.fault_code.Tie as tie
 
-enum-told : tie.Need-enum-told
-enum-told c = search needs
+number-requires : tie.Need-number-requires
+number-requires c κs = search needs
 
-enum-told-2 : tie.Need-enum-told-2
-enum-told-2 c = search needs
-
-enum-told-3 : tie.Need-enum-told-3
-enum-told-3 c = search needs
-
-enum-told-4 : tie.Need-enum-told-4
-enum-told-4 c = search needs
-
-enum-known-fault : tie.Need-enum-known-fault
-enum-known-fault c = search needs
+value-requires : tie.Need-value-requires
+value-requires c κs = search needs
 
 packed-requires : tie.Need-packed-requires
-packed-requires c κs = rw (c .before .fault .given .1) at (c .before .before .before .pre)
+packed-requires c κs =
+    let fits = c .before .before .pre in
+    record { number-fits = rw (c .before .number .ensures) (fits .number-fits); value-fits = rw (c .value .ensures) (fits .value-fits) }
 
 returns : tie.Need-returns
-returns c = rw (c .enum-told .given .1)
-
-returns-2 : tie.Need-returns-2
-returns-2 c = rw (c .enum-told2 .given .1)
-
-returns-3 : tie.Need-returns-3
-returns-3 c = rw (c .enum-told3 .given .1)
-
-returns-4 : tie.Need-returns-4
-returns-4 c = rw (c .enum-told4 .given .1)
-
-returns-5 : tie.Need-returns-5
-returns-5 c = rw (c .before .before .fault .given .1) (c .packed .ensures)
+returns c =
+    let v = c .before in
+    c .packed .ensures ∙ ap₂ (λ (n x : ℕ). n + 256 * x) (v .before .number .ensures) (v .value .ensures)
 
 pub fault-code-spec : {M : Type 1} → statement M
-fault-code-spec =
-    tie.close
-    (tie.spec
-    enum-told
-    enum-told-2
-    enum-told-3
-    enum-told-4
-    enum-known-fault
-    packed-requires
-    returns
-    returns-2
-    returns-3
-    returns-4
-    returns-5)
+fault-code-spec = tie.close (tie.spec number-requires value-requires packed-requires returns)

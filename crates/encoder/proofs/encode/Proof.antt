@@ -7,7 +7,6 @@ use borrow.Author.Tests.{not-true, not-false}
 use denote.Ref.{now}
 use Rattle.flat.specs.Strips.{lengthOk}
 use Rattle.card.specs.Reports.{checkReport}
-use Rattle.card.proofs.Laws.{rest}
 use Rattle.card.proofs.Callers.{GoodCard, good}
 use Rattle.flat.proofs.Lengths.{length-in, stripe-small}
 use Rattle.encoder.proofs.Answered.{stripe-kept, bad-report, bad-stripe, long-report, other-report, good-report, good-stripe}
@@ -45,13 +44,13 @@ fits : (c : tie.Else1) → lengthOk (start (c .before .before) .args .l) ≡ tru
 fits c = sym (c .before .length-ok .ensures) ∙ not-false _ (c .if1 .left)
 
 add-if2 : tie.Need-add-if2
-add-if2 c = let g = known (c .before .before) in omega (arith, g .k-in, g .m-in)
+add-if2 c = let g = known (c .before .before) .columns in omega (arith, g .1, g .3)
 
 mul-if2 : tie.Need-mul-if2
 mul-if2 c =
-    let g = known (c .before .before) in
     let at = c .before .before in
-    let n : at .before .k .given .0 .0 + at .before .k .given .0 .1 .0 ≤ 32 = omega (arith, g .k-in, g .m-in) in
+    let g = known at .columns in
+    let n : at .before .k .given .0 .0 + at .before .k .given .0 .1 .0 ≤ 32 = omega (arith, g .1, g .3) in
     record { fits = omega (arith, stripe-small _ (start at .args .l) n (length-in _ (fits c) .1)) }
 
 returns-2 : tie.Need-returns-2
@@ -60,20 +59,13 @@ returns-2 c =
     let e = other-report _ _ _ _ _ g (fits (c .before)) (c .if2 .taken) in
     (e, stripe-kept _ _ _ _ _ e)
 
-sub-encode-columns : tie.Need-sub-encode-columns
-sub-encode-columns c = omega (arith, known (c .before .before .before) .size)
-
-part-encode-columns-start : tie.Need-part-encode-columns-start
-part-encode-columns-start c = omega (arith, known (c .before .before .before) .size)
-
-part-encode-columns-end : tie.Need-part-encode-columns-end
-part-encode-columns-end c = search needs
+columns-requires : tie.Need-columns-requires
+columns-requires c κs = omega (arith, known (c .before .before .before) .size)
 
 encode-columns-requires : tie.Need-encode-columns-requires
 encode-columns-requires c κs =
     let e = c .before .before in
-    let g = known (e .before .before .before) in
-    (g .k-in .0, g .k-in .1, g .m-in .1, rw rest (omega (arith, g .columns)), length-in _ (fits (e .before)) .0, sym (e .if2 .left))
+    (rw (c .before .columns .ensures) (known (e .before .before .before) .columns), length-in _ (fits (e .before)) .0, sym (e .if2 .left))
 
 returns-3 : tie.Need-returns-3
 returns-3 c =
@@ -90,7 +82,7 @@ returns-4 c =
     let l = c .before .before .before .before .before in
     let g = known (l .before .before .before) in
     let e = good-report _ _ _ _ _ g (fits (l .before)) (l .if2 .left) in
-    (e, v .ensures ∙ rw rest (good-stripe _ _ _ _ _ g e))
+    (e, v .ensures ∙ rw (c .before .before .before .before .columns .ensures) (good-stripe _ _ _ _ _ g e))
 
 pub encode-spec : {M : Type 1} → statement M
 encode-spec =
@@ -104,9 +96,7 @@ encode-spec =
     add-if2
     mul-if2
     returns-2
-    sub-encode-columns
-    part-encode-columns-start
-    part-encode-columns-end
+    columns-requires
     encode-columns-requires
     returns-3
     same-length

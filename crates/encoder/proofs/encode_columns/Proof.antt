@@ -6,7 +6,7 @@ use native.Mathlib.Omega.{arith}
 use lib.Dec.{T}
 use lib.ListN.{getD}
 use Rattle.gf2.specs.Sets.{has}
-use Rattle.flat.specs.Cards.{code, columnsIn, disks}
+use Rattle.flat.specs.Cards.{disks, codeIn}
 use Rattle.flat.specs.Repairs.{filled, parities}
 use Rattle.encoder.proofs.Laws.{parity-out, filled-encoded}
 use borrow.Author.Needs.{needs}
@@ -24,7 +24,7 @@ parities-requires c κs = search needs
 
 -- the targets are the parity disks
 parities-are : (c : tie.After-parities)
-    → c .parities .result ≡ parities (code (c .before .before .before .before .before .args .k) (c .before .before .before .before .before .args .m) (columnsIn (c .before .before .before .before .before .args .m) (c .before .before .before .before .before .args .columns .now)))
+    → c .parities .result ≡ parities (codeIn (c .before .before .before .before .before .args .k) (c .before .before .before .before .before .args .m) (c .before .before .before .before .before .args .columns .now))
 unfolding parities disks
 parities-are c = c .parities .ensures
 
@@ -36,7 +36,7 @@ fill-requires c κs =
     let st = c .before .before .before .before .before in
     let a = st .args in
     let n = st .pre in
-    ((n .4, omega arith, omega (arith, n .1, n .2), n .5), λ d i t l u v. absurd (omega (arith, l, parity-at c i v)))
+    ((n .1, omega arith, omega (arith, n .0 .1, n .0 .3), n .2), λ d i t l u v. absurd (omega (arith, l, parity-at c i v)))
 
 same-length : tie.Need-same-length
 same-length c = search needs
@@ -48,7 +48,7 @@ returns c =
     let b = p .before .before in
     let a = b .before .before .before .args in
     f .ensures ∙ ap (λ (S : ℕ). filled (a .k) (a .l) (λ d. getD (b .parity-sets .result) d 0) S (a .stripe .now)) (parities-are p)
-    ∙ filled-encoded (a .k) (a .m) (a .columns .now) (a .l) (a .stripe .now) (b .parity-sets .result) (b .before .before .before .pre .5) (b .parity-sets .ensures)
+    ∙ filled-encoded (a .k) (a .m) (a .columns .now) (a .l) (a .stripe .now) (b .parity-sets .result) (b .before .before .before .pre .2) (b .parity-sets .ensures)
 
 pub encode-columns-spec : {M : Type 1} → statement M
 encode-columns-spec =

@@ -8,7 +8,7 @@ use borrow.Author.Needs.{needs}
 use denote.Ref.{now}
 use lib.ListN.{length, getD, take}
 use Rattle.gf2.proofs.Bits.{one-shifted}
-use Rattle.flat.specs.Cards.{Code, code, columnsIn, disks}
+use Rattle.flat.specs.Cards.{Code, disks, codeIn}
 use Rattle.flat.specs.Equations.{equations}
 use Rattle.flat.specs.Faults.{unlessRefused, listSlice}
 use Rattle.flat.specs.Spans.{checks}
@@ -25,7 +25,7 @@ use Rattle.equations.proofs.list_columns.Statement.{statement}
 use Rattle.equations.proofs.list_columns.Tie as tie
 
 checks-requires : tie.Need-checks-requires
-checks-requires c κs = (search needs, c .before .before .pre .1)
+checks-requires c κs = search needs
 
 cast-set : tie.Need-cast-set
 cast-set c = search needs
@@ -44,7 +44,7 @@ abbrev start : tie.After-checks → tie.Start
 start c = c .before .before .before
 
 abbrev codeAt : tie.After-checks → Code
-codeAt c = code (start c .args .k) (start c .args .m) (columnsIn (start c .args .m) (now (start c .args .columns)))
+codeAt c = codeIn (start c .args .k) (start c .args .m) (now (start c .args .columns))
 
 mark-requires : tie.Need-mark-requires
 unfolding noMarks

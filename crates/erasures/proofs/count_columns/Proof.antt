@@ -7,7 +7,7 @@ use borrow.Author.Needs.{needs}
 use denote.Ref.{now}
 use lib.ListN.{getD}
 use Rattle.flat.specs.Lists.{padded, tabulate}
-use Rattle.flat.specs.Cards.{code, columnsIn}
+use Rattle.flat.specs.Cards.{codeIn}
 use Rattle.flat.specs.Spans.{rows}
 use Rattle.words.specs.Listed.{sizes, tally}
 use Rattle.marks.specs.Marks.{noMarks}
@@ -39,7 +39,7 @@ returns : tie.Need-returns
 returns c =
     let a = c .before .before .before .before .before .before .args in
     let b = c .before .before .before .before .rows in
-    let C = code (a .k) (a .m) (columnsIn (a .m) (now (a .columns))) in
+    let C = codeIn (a .k) (a .m) (now (a .columns)) in
     c .vector .ensures
     ∙ ap (λ (l : List ℕ). padded 17 (tabulate (a .m) (λ i. getD l ((i + 1) * sizes) 0)))
     (c .before .before .mark .ensures .0 ∙ ap (λ (l : List ℕ). tally l 0 0) (taken-rows (a .k) (a .m) _ _ _ (b .ensures .0) (b .ensures .1)))

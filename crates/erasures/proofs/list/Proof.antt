@@ -8,7 +8,6 @@ use denote.Ref.{now}
 use lib.ListN.{length}
 use Rattle.flat.specs.Faults.{erasuresReport}
 use Rattle.card.specs.Reports.{checkReport}
-use Rattle.card.proofs.Laws.{rest}
 use Rattle.card.proofs.Callers.{GoodCard, good}
 use Rattle.erasures.specs.Reports.{listedReport}
 use Rattle.erasures.proofs.Answered.{bad-report, bad-vector, bad-slice, good-report, good-vector, good-slice}
@@ -31,19 +30,11 @@ cardAt c = now (c .before .before .before .before .before .before .args .card)
 known : (c : tie.After-known-told2) → GoodCard (cardAt c) (c .before .k .given .0 .0) (c .before .k .given .0 .1 .0)
 known c = good _ _ _ (ap checkReport (sym (c .before .k .given .1)) ∙ c .before .before .before .check .ensures)
 
-sub-list-columns : tie.Need-sub-list-columns
-sub-list-columns c = omega (arith, known c .size)
-
-part-list-columns-start : tie.Need-part-list-columns-start
-part-list-columns-start c = omega (arith, known c .size)
-
-part-list-columns-end : tie.Need-part-list-columns-end
-part-list-columns-end c = search needs
+columns-requires : tie.Need-columns-requires
+columns-requires c κs = omega (arith, known c .size)
 
 list-columns-requires : tie.Need-list-columns-requires
-list-columns-requires c κs =
-    let g = known (c .before .before) in
-    (g .k-in .0, g .k-in .1, g .m-in .1, rw rest (omega (arith, g .columns)))
+list-columns-requires c κs = rw (c .before .columns .ensures) (known (c .before .before) .columns)
 
 returns : tie.Need-returns
 returns c =
@@ -61,11 +52,12 @@ returns-2 c =
     let g = known s in
     let slice = now (s .before .before .before .before .before .before .args .out) in
     let v = d .list-columns in
-    let e : listedReport (v .result .answer) ≡ erasuresReport (cardAt s) (length slice) = v .ensures .0 ∙ rw rest (good-report _ _ _ g _) in (
+    let are = d .before .before .columns .ensures in
+    let e : listedReport (v .result .answer) ≡ erasuresReport (cardAt s) (length slice) = v .ensures .0 ∙ rw are (good-report _ _ _ g _) in (
       e,
       (
-        v .ensures .1 .0 ∙ rw rest (good-vector _ _ _ g _ _ e),
-        v .ensures .1 .1 ∙ rw rest (good-slice _ _ _ g _ _ e),
+        v .ensures .1 .0 ∙ rw are (good-vector _ _ _ g _ _ e),
+        v .ensures .1 .1 ∙ rw are (good-slice _ _ _ g _ _ e),
       ),
     )
 
@@ -76,9 +68,7 @@ list-spec =
     check-requires
     enum-known-fault
     enum-known-k
-    sub-list-columns
-    part-list-columns-start
-    part-list-columns-end
+    columns-requires
     list-columns-requires
     returns
     same-length

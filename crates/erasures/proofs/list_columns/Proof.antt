@@ -8,7 +8,7 @@ use borrow.Author.Needs.{needs}
 use denote.Ref.{now}
 use lib.ListN.{length, getD, take}
 use Rattle.flat.specs.Lists.{padded, tabulate}
-use Rattle.flat.specs.Cards.{Code, code, columnsIn}
+use Rattle.flat.specs.Cards.{Code, codeIn}
 use Rattle.flat.specs.Erasures.{erasures}
 use Rattle.flat.specs.Faults.{unlessRefused, listSlice}
 use Rattle.flat.specs.Spans.{rows}
@@ -44,7 +44,7 @@ abbrev start : tie.After-mark → tie.Start
 start c = c .before .before .before .before .before
 
 abbrev codeAt : tie.After-mark → Code
-codeAt c = code (start c .args .k) (start c .args .m) (columnsIn (start c .args .m) (now (start c .args .columns)))
+codeAt c = codeIn (start c .args .k) (start c .args .m) (now (start c .args .columns))
 
 tallied : (c : tie.After-mark) → c .mark .result ≡ tally (rows (codeAt c)) 0 0
 tallied c =

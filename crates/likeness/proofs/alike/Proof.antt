@@ -1,17 +1,16 @@
 -- `likeness::alike` meets its contract. Assumes nothing.
 use mathlib.Core.Path.{_≡_, sym, ap, ap₂, _∙_}
 use mathlib.Core.Bool.{true, false}
+use mathlib.Core.List.{List}
 use Prim.Native.Nat.{ℕ}
 use native.Mathlib.Omega.{arith}
 use denote.Ref.{now}
-use lib.ListN.{drop}
 use Rattle.flat.specs.Lists.{same, padded}
-use Rattle.flat.specs.Cards.{code, columnsIn}
+use Rattle.flat.specs.Cards.{columnBytes, codeIn}
 use Rattle.flat.specs.Erasures.{vector}
 use Rattle.flat.specs.Alike.{alike}
 use Rattle.flat.specs.Faults.{yesNo}
 use Rattle.card.specs.Reports.{checkReport}
-use Rattle.card.proofs.Laws.{rest}
 use Rattle.card.proofs.Callers.{GoodCard, good}
 use Rattle.likeness.proofs.Answered.{alike-first, alike-second, alike-both, data-differs, parity-differs, vectors-decide}
 use borrow.Author.Needs.{needs}
@@ -75,35 +74,20 @@ returns-2 c =
     alike-both _ _ _ _ (known (prior b)) _ _ (known2 b) false
     (parity-differs _ _ _ _ (known (prior b)) _ _ (known2 b) (c .before .if1 .left) (c .if2 .taken))
 
-sub-count-columns : tie.Need-sub-count-columns
-sub-count-columns c = omega (arith, known (prior (c .before .before)) .size)
-
-part-count-columns-start : tie.Need-part-count-columns-start
-part-count-columns-start c = omega (arith, known (prior (c .before .before)) .size)
-
-part-count-columns-end : tie.Need-part-count-columns-end
-part-count-columns-end c = search needs
+columns-requires : tie.Need-columns-requires
+columns-requires c κs = omega (arith, known (prior (c .before .before)) .size)
 
 count-columns-requires : tie.Need-count-columns-requires
-count-columns-requires c κs =
-    let g = known (prior (c .before .before .before)) in
-    (g .k-in .0, g .k-in .1, g .m-in .1, rw rest (omega (arith, g .columns)))
+count-columns-requires c κs = rw (c .columns .ensures) (known (prior (c .before .before .before)) .columns)
 
-sub-count-columns-2 : tie.Need-sub-count-columns-2
-sub-count-columns-2 c = omega (arith, known2 (c .before .before .before .before) .size)
+columns-requires-2 : tie.Need-columns-requires-2
+columns-requires-2 c κs = omega (arith, known2 (c .before .before .before .before) .size)
 
-part-count-columns-start-2 : tie.Need-part-count-columns-start-2
-part-count-columns-start-2 c = omega (arith, known2 (c .before .before .before .before) .size)
-
-part-count-columns-end-2 : tie.Need-part-count-columns-end-2
-part-count-columns-end-2 c = search needs
-
+-- the second card is one of the first's counts
 count-columns-requires-2 : tie.Need-count-columns-requires-2
 count-columns-requires-2 c κs =
     let e = c .before .before .before in
-    let g = known (prior (e .before .before)) in
-    let h = known2 (e .before .before) in
-    (g .k-in .0, g .k-in .1, g .m-in .1, rw rest (omega (arith, h .columns, e .if2 .left)))
+    rw (c .columns2 .ensures, e .before .if1 .left, e .if2 .left) (known2 (e .before .before) .columns)
 
 equal-requires : tie.Need-equal-requires
 equal-requires c κs = search needs
@@ -116,17 +100,19 @@ decided : (c : tie.After-equal)
     → let b = both c .before .before in
     let p = prior b in
     c .equal .result
-    ≡ alike (code (kAt p) (mAt p) (columnsIn (mAt p) (drop 2 (now (start p .args .first)))))
-    (code (dataAt b) (parityAt b) (columnsIn (parityAt b) (drop 2 (now (start p .args .second)))))
+    ≡ alike (codeIn (kAt p) (mAt p) (columnBytes (now (start p .args .first))))
+    (codeIn (dataAt b) (parityAt b) (columnBytes (now (start p .args .second))))
 decided c =
     let b = both c .before .before in
     let p = prior b in
-    let x : c .before .before .before .count-columns .result ≡ padded 17 (vector (code (kAt p) (mAt p) (columnsIn (mAt p) (drop 2 (now (start p .args .first)))))) =
-    c .before .before .before .count-columns .ensures ∙ rw rest in
-    let y : c .before .count-columns2 .result ≡ padded 17 (vector (code (dataAt b) (parityAt b) (columnsIn (parityAt b) (drop 2 (now (start p .args .second)))))) =
-    c .before .count-columns2 .ensures ∙ rw rest
-    (ap₂ (λ (i j : ℕ). padded 17 (vector (code i j (columnsIn j (drop 2 (now (start p .args .second))))))) (both c .before .if1 .left) (both c .if2 .left)) in
-    c .equal .ensures ∙ ap₂ same x y ∙ vectors-decide _ _ _ _ (known p) _ _ (known2 b) (both c .before .if1 .left) (both c .if2 .left)
+    let a = c .before .before .before in
+    let k = both c .before .if1 .left in
+    let m = both c .if2 .left in
+    let vectorOf : ℕ → ℕ → List ℕ → List ℕ = λ i j bytes. padded 17 (vector (codeIn i j bytes)) in
+    let x = a .count-columns .ensures ∙ ap (vectorOf (kAt p) (mAt p)) (a .before .columns .ensures) in
+    let y = c .before .count-columns2 .ensures ∙ ap (vectorOf (kAt p) (mAt p)) (c .before .before .columns2 .ensures)
+    ∙ ap₂ (λ (i j : ℕ). vectorOf i j (columnBytes (now (start p .args .second)))) k m in
+    c .equal .ensures ∙ ap₂ same x y ∙ vectors-decide _ _ _ _ (known p) _ _ (known2 b) k m
 
 returns-3 : tie.Need-returns-3
 unfolding yesNo
@@ -161,13 +147,9 @@ alike-spec =
     enum-known-data
     returns
     returns-2
-    sub-count-columns
-    part-count-columns-start
-    part-count-columns-end
+    columns-requires
     count-columns-requires
-    sub-count-columns-2
-    part-count-columns-start-2
-    part-count-columns-end-2
+    columns-requires-2
     count-columns-requires-2
     equal-requires
     returns-3

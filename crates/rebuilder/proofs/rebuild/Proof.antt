@@ -8,7 +8,6 @@ use borrow.Author.Needs.{needs}
 use denote.Ref.{now}
 use Rattle.flat.specs.Faults.{rebuildReport}
 use Rattle.card.specs.Reports.{checkReport}
-use Rattle.card.proofs.Laws.{rest}
 use Rattle.card.proofs.Callers.{GoodCard, good}
 use Rattle.rebuilder.specs.Reports.{rebuiltReport}
 use Rattle.rebuilder.proofs.Answered.{good-report, good-stripe, bad-report, bad-stripe}
@@ -31,19 +30,11 @@ cardAt c = now (c .before .before .before .before .before .before .args .card)
 known : (c : tie.After-known-told2) → GoodCard (cardAt c) (c .before .k .given .0 .0) (c .before .k .given .0 .1 .0)
 known c = good _ _ _ (ap checkReport (sym (c .before .k .given .1)) ∙ c .before .before .before .check .ensures)
 
-sub-rebuild-columns : tie.Need-sub-rebuild-columns
-sub-rebuild-columns c = omega (arith, known c .size)
-
-part-rebuild-columns-start : tie.Need-part-rebuild-columns-start
-part-rebuild-columns-start c = omega (arith, known c .size)
-
-part-rebuild-columns-end : tie.Need-part-rebuild-columns-end
-part-rebuild-columns-end c = search needs
+columns-requires : tie.Need-columns-requires
+columns-requires c κs = omega (arith, known c .size)
 
 rebuild-columns-requires : tie.Need-rebuild-columns-requires
-rebuild-columns-requires c κs =
-    let g = known (c .before .before) in
-    ((g .k-in .0, g .k-in .1, g .m-in .1, rw rest (omega (arith, g .columns))), λ j l. rw rest (g .small j l))
+rebuild-columns-requires c κs = rw (c .before .columns .ensures) (known (c .before .before) .columns)
 
 returns : tie.Need-returns
 returns c =
@@ -61,9 +52,10 @@ returns-2 c =
     let a = s .before .before .before .before .before .before .args in
     let g = known s in
     let v = d .rebuild-columns in
+    let are = d .before .before .columns .ensures in
     let e : rebuiltReport (v .result) ≡ rebuildReport (cardAt s) (a .l) (a .lost) (now (a .stripe)) =
-    v .ensures .0 ∙ rw rest (sym (good-report _ _ _ _ _ _ g)) in
-    (e, v .ensures .1 ∙ rw rest (good-stripe _ _ _ _ _ _ _ g e))
+    v .ensures .0 ∙ rw are (sym (good-report _ _ _ _ _ _ g)) in
+    (e, v .ensures .1 ∙ rw are (good-stripe _ _ _ _ _ _ _ g e))
 
 pub rebuild-spec : {M : Type 1} → statement M
 rebuild-spec =
@@ -72,9 +64,7 @@ rebuild-spec =
     check-requires
     enum-known-fault
     enum-known-k
-    sub-rebuild-columns
-    part-rebuild-columns-start
-    part-rebuild-columns-end
+    columns-requires
     rebuild-columns-requires
     returns
     same-length

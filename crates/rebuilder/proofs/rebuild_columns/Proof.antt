@@ -9,7 +9,7 @@ use borrow.Author.Tests.{not-true, not-false}
 use denote.Ref.{now}
 use lib.Dec.{ltb}
 use lib.ListN.{length}
-use Rattle.flat.specs.Cards.{code, disks, setOk, columnsIn}
+use Rattle.flat.specs.Cards.{disks, setOk, codeIn}
 use Rattle.flat.specs.Strips.{lengthOk}
 use Rattle.flat.specs.Faults.{unlessRefused}
 use Rattle.flat.proofs.Lengths.{length-in, stripe-small}
@@ -56,7 +56,7 @@ add-if3 c = search needs
 mul-if3 : tie.Need-mul-if3
 mul-if3 c =
     let a = start c in
-    let few : a .args .k + a .args .m ≤ 32 = omega (arith, a .pre .0) in
+    let few : a .args .k + a .args .m ≤ 32 = omega (arith, a .pre) in
     record { fits = omega (arith, stripe-small (a .args .k + a .args .m) (a .args .l) few (length-in _ (good-length (c .before .before)) .1)) }
 
 returns-3 : tie.Need-returns-3
@@ -66,7 +66,7 @@ returns-3 c = (size-report _ _ _ _ _ _ (good-length (c .before .before .before))
 -- past the third
 passed : (c : tie.Else3) →
     let a = start (c .before) .args in
-    Passed (code (a .k) (a .m) (columnsIn (a .m) (now (a .columns)))) (a .l) (a .lost) (length (now (a .stripe)))
+    Passed (codeIn (a .k) (a .m) (now (a .columns))) (a .l) (a .lost) (length (now (a .stripe)))
 unfolding setOk disks
 passed c = record { length-ok = good-length (c .before .before .before); set-ok = good-set (c .before); size = c .if3 .left }
 
@@ -75,7 +75,7 @@ unfolding disks
 restore-requires c κs =
     let p = passed (c .before) in
     let s = start (c .before .before) .pre in
-    (s .0, (s .1, (passed-length p .0, passed-length p .1, passed-set p, p .size)))
+    (s, (passed-length p .0, passed-length p .1, passed-set p, p .size))
 
 same-length : tie.Need-same-length
 same-length c = search needs

@@ -11,7 +11,7 @@ use denote.Ref.{now}
 use lib.Dec.{T}
 use lib.ListN.{take}
 use Rattle.flat.specs.Lists.{Bytes}
-use Rattle.flat.specs.Cards.{Code, code, columnsIn}
+use Rattle.flat.specs.Cards.{Code, codeIn}
 use Rattle.flat.specs.Erasures.{fatal}
 use Rattle.flat.specs.Spans.{checks}
 use Rattle.flat.specs.Rebuilding.{agreeing}
@@ -41,7 +41,7 @@ abbrev start : tie.Else1 → tie.Start
 start c = c .before .before .before .before .before
 
 abbrev C : tie.Else1 → Code
-C c = let a = start c .args in code (a .k) (a .m) (columnsIn (a .m) (now (a .columns)))
+C c = let a = start c .args in codeIn (a .k) (a .m) (now (a .columns))
 
 safe : (c : tie.Else1) → T (fatal (C c) (start c .args .lost)) → ⊥
 safe c =
@@ -63,7 +63,7 @@ within-requires c κs = search needs
 
 all-vanish-requires : tie.Need-all-vanish-requires
 all-vanish-requires c κs =
-    let q = start (c .before .before .before .before) .pre .1 .1 in (q .1, few (c .before .before .before .before), omega (arith, q .3), search needs)
+    let q = start (c .before .before .before .before) .pre .1 in (q .1, few (c .before .before .before .before), omega (arith, q .3), search needs)
 
 same-length : tie.Need-same-length
 same-length c = search needs
@@ -81,7 +81,7 @@ returns-2 c =
     let v = c .before in
     let s = v .before .before .before in
     let p = s .before .before in (
-      none-report _ _ _ _ _ _ (safe p) _ (checked (s .before)) (start p .pre .1 .1 .0) (stripe-bytes p) _ _
+      none-report _ _ _ _ _ _ (safe p) _ (checked (s .before)) (start p .pre .1 .0) (stripe-bytes p) _ _
           (rw (s .survivors .ensures) at (v .before .within .ensures .1)) (v .all-vanish .ensures) (not-true _ (c .if2 .taken)),
       refl,
     )
@@ -93,7 +93,7 @@ agreed c =
     let v = c .before in
     let s = v .before .before .before in
     let p = s .before .before in
-    some-left _ _ _ _ _ _ (safe p) _ (checked (s .before)) (start p .pre .1 .1 .0) (stripe-bytes p) _ _
+    some-left _ _ _ _ _ _ (safe p) _ (checked (s .before)) (start p .pre .1 .0) (stripe-bytes p) _ _
     (rw (s .survivors .ensures) at (v .before .within .ensures .1)) (v .all-vanish .ensures) (not-false _ (c .if2 .left))
 
 equations-requires : tie.Need-equations-requires
@@ -105,7 +105,7 @@ fill-requires c κs =
     let s = e .before .before .before .before .before in
     let p = s .before .before in
     let a = start p .args in
-    let q = start p .pre .1 .1 in (
+    let q = start p .pre .1 in (
       (q .0, search needs, few p, sym (q .3)),
       λ d i t l. no-target _ _ _ (a .l) _ (now (a .stripe)) (safe p) _ (checked (s .before)) (few p) (q .2) _
           (rw (s .survivors .ensures) at (e .equations .ensures)) d i t,
@@ -124,7 +124,7 @@ returns-3 c =
     let e = f .before .before in
     let s = e .before .before .before .before .before in
     let p = s .before .before in
-    let q = start p .pre .1 .1 in (
+    let q = start p .pre .1 in (
       ap (λ (n : ℕ). accepted (n ∷ [])) (c .size .ensures) ∙ some-report _ _ _ _ _ _ (safe p) _ (checked (s .before)) (agreed (e .before)),
       f .fill .ensures
           ∙ filled-stripe _ _ _ _ _ _ (safe p) _ (checked (s .before)) (few p) (q .2) _

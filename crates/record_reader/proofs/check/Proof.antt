@@ -152,10 +152,10 @@ many : (c : tie.After-check) → entryCountIn (file (first (listing c))) ≡ c .
 many c = entries-at _ _ (c .before .before .before .before .number-2 .ensures .0)
 
 add-if5 : tie.Need-add-if5
-add-if5 c = let g = known c in omega (arith, g .k-in, g .m-in)
+add-if5 c = let g = known c .columns in omega (arith, g .1, g .3)
 
 add-if5-2 : tie.Need-add-if5-2
-add-if5-2 c = let g = known c in omega (arith, g .k-in, g .m-in)
+add-if5-2 c = let g = known c .columns in omega (arith, g .1, g .3)
 
 returns-5 : tie.Need-returns-5
 returns-5 c =
@@ -165,10 +165,10 @@ returns-5 c =
 check-strips-requires : tie.Need-check-strips-requires
 check-strips-requires c κs =
     let k = c .before .before .before .before in
-    let g = known (c .before) in (
-      g .k-in .0,
-      g .k-in .1,
-      g .m-in .1,
+    let g = known (c .before) .columns in (
+      g .0,
+      g .1,
+      g .3,
       short (listing k .before .before .before .before),
       omega (arith, c .if5 .left, many k, entries-in _ (passed (listing k) .listed)),
       sym (strip-length (listing k .before .before .before .before .before .before)),

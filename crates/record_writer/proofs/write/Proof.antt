@@ -29,7 +29,7 @@ known : (c : tie.After-known-told2) → GoodCard (now (start c .args .card)) (c 
 known c = good _ _ _ (ap checkReport (sym (c .before .k .given .1)) ∙ c .before .before .before .check .ensures)
 
 write-good-requires : tie.Need-write-good-requires
-write-good-requires c κs = let g = known (c .before) in (g .k-in .0, g .k-in .1, g .m-in .1, g .size)
+write-good-requires c κs = let g = known (c .before) in (g .columns .0, g .columns .1, g .columns .3, g .size)
 
 returns : tie.Need-returns
 returns c =

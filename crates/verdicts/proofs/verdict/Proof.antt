@@ -6,7 +6,6 @@ use native.Mathlib.Omega.{arith}
 use borrow.Author.Needs.{needs}
 use denote.Ref.{now}
 use Rattle.card.specs.Reports.{checkReport}
-use Rattle.card.proofs.Laws.{rest}
 use Rattle.card.proofs.Callers.{GoodCard, good}
 use Rattle.verdicts.proofs.Laws.{good-report, bad-report}
 use Rattle.verdicts.proofs.verdict.Statement.{statement}
@@ -28,25 +27,17 @@ cardAt c = now (c .before .before .before .before .before .args .card)
 known : (c : tie.After-known-told2) → GoodCard (cardAt c) (c .before .k .given .0 .0) (c .before .k .given .0 .1 .0)
 known c = good _ _ _ (ap checkReport (sym (c .before .k .given .1)) ∙ c .before .before .before .check .ensures)
 
-sub-verdict-columns : tie.Need-sub-verdict-columns
-sub-verdict-columns c = omega (arith, known c .size)
-
-part-verdict-columns-start : tie.Need-part-verdict-columns-start
-part-verdict-columns-start c = omega (arith, known c .size)
-
-part-verdict-columns-end : tie.Need-part-verdict-columns-end
-part-verdict-columns-end c = search needs
+columns-requires : tie.Need-columns-requires
+columns-requires c κs = omega (arith, known c .size)
 
 verdict-columns-requires : tie.Need-verdict-columns-requires
-verdict-columns-requires c κs =
-    let g = known (c .before) in
-    (g .k-in .1, g .m-in .1, rw rest (omega (arith, g .columns)))
+verdict-columns-requires c κs = rw (c .columns .ensures) (known (c .before) .columns)
 
 returns : tie.Need-returns
 returns c = bad-report _ _ (c .before .fault .given .0 .0) (ap checkReport (sym (c .before .fault .given .1)) ∙ c .before .before .before .check .ensures)
 
 returns-2 : tie.Need-returns-2
-returns-2 c = c .verdict-columns .ensures ∙ rw rest (good-report _ _ _ _ (known (c .before .before)))
+returns-2 c = c .verdict-columns .ensures ∙ rw (c .before .columns .ensures) (good-report _ _ _ _ (known (c .before .before)))
 
 pub verdict-spec : {M : Type 1} → statement M
 verdict-spec =
@@ -55,9 +46,7 @@ verdict-spec =
     check-requires
     enum-known-fault
     enum-known-k
-    sub-verdict-columns
-    part-verdict-columns-start
-    part-verdict-columns-end
+    columns-requires
     verdict-columns-requires
     returns
     returns-2)

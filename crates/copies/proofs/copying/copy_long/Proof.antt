@@ -3,7 +3,7 @@
 use mathlib.Core.Path.{_∙_}
 use Prim.Native.Nat.{_-_}
 use lib.ListN.{length}
-use Rattle.card.proofs.Laws.{rest}
+use Rattle.flat.proofs.Lists.{rest}
 use Rattle.copies.proofs.Blocks.{Run, run-none, run-more, run-rest}
 use borrow.Author.Needs.{needs}
 use Rattle.copies.proofs.copying.copy_long.Statement.{statement}
