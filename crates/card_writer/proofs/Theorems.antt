@@ -7,13 +7,13 @@ use Rattle.flat.specs.Faults.{Report}
 use Rattle.card.proofs.Theorems.{carried, carried-back}
 use Rattle.card_writer.specs.declared.CardWritten.{CardWritten}
 use Rattle.card_writer.specs.declared.CardWritten.the-variants.{Done, Refused, Buffer}
-use Rattle.card_writer.specs.Reports.{writtenReport}
+use Rattle.card_writer.specs.Reports.{report}
 use Rattle.card_writer.specs.Theorems.{WrittenInjective}
 
 abbrev writtenOf : Report → CardWritten
 writtenOf r = carried r Refused (if eqb (r .number) 0 then Done else Buffer)
 
-written-back : (r : CardWritten) → writtenOf (writtenReport r) ≡ r
+written-back : (r : CardWritten) → writtenOf (report r) ≡ r
 written-back Done = refl
 written-back (Refused f) = carried-back f Refused _
 written-back Buffer = refl

@@ -6,7 +6,7 @@ use Rattle.card.specs.Reports.{faultReport}
 use Rattle.card_writer.specs.declared.CardWritten.{CardWritten}
 use Rattle.card_writer.specs.declared.CardWritten.the-variants.{Done, Refused, Buffer}
 
-abbrev pub writtenReport : CardWritten → Report
-writtenReport Done = accepted []
-writtenReport (Refused f) = faultReport f
-writtenReport Buffer = refused 7 []
+abbrev pub report : CardWritten → Report
+report Done = accepted []
+report (Refused f) = faultReport f
+report Buffer = refused 7 []

@@ -3,7 +3,7 @@
 -- Assumes nothing.
 use mathlib.Core.Path.{_≡_}
 use Rattle.card_writer.specs.declared.CardWritten.{CardWritten}
-use Rattle.card_writer.specs.Reports.{writtenReport}
+use Rattle.card_writer.specs.Reports.{report}
 
 abbrev pub WrittenInjective : Type 0
-WrittenInjective = (a b : CardWritten) → writtenReport a ≡ writtenReport b → a ≡ b
+WrittenInjective = (a b : CardWritten) → report a ≡ report b → a ≡ b

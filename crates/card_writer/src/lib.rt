@@ -7,7 +7,7 @@ ghost use Prim.Native.Nat.{_≤_};
 ghost use lib.ListN.{length};
 ghost use Rattle.flat.specs.Cards.{code, cardLength, cardBytes};
 ghost use Rattle.flat.specs.Faults.{cardWriteReport, cardWriteBuffer};
-ghost use Rattle.card_writer.specs.Reports.{writtenReport};
+ghost use Rattle.card_writer.specs.Reports.{report};
 use card::CardFault;
 
 // The card writer's answer: written, a fault of the card that was to be, or a buffer of another length.
@@ -19,7 +19,7 @@ pub enum CardWritten {
 
 // What the card writer answers for a buffer of n bytes.
 fn write_check(k: usize, m: usize, columns: &[u16], n: usize) -> CardWritten
-    ensures { λ r. ⌜ writtenReport r ≡ cardWriteReport (code k m (now (columns .entry))) n ⌝ }
+    ensures { λ r. ⌜ report r ≡ cardWriteReport (code k m (now (columns .entry))) n ⌝ }
 {
     if !card::count_ok(k) {
         return CardWritten::Refused(CardFault::DataCount);
@@ -57,7 +57,7 @@ fn put(k: usize, m: usize, columns: &[u16], out: &mut [u8])
 
 // The card writer: the card of k, m and the columns into a buffer of exactly its length.
 pub fn write(k: usize, m: usize, columns: &[u16], out: &mut [u8]) -> CardWritten
-    ensures { λ r. ⌜ writtenReport r ≡ cardWriteReport (code k m (now (columns .entry))) (length (now (out .entry))) ⌝ }
+    ensures { λ r. ⌜ report r ≡ cardWriteReport (code k m (now (columns .entry))) (length (now (out .entry))) ⌝ }
     ensures { λ _. ⌜ now (out .exit) ≡ cardWriteBuffer (code k m (now (columns .entry))) (now (out .entry)) ⌝ }
 {
     let answer = write_check(k, m, columns, out.len());

@@ -7,7 +7,7 @@ use Rattle.flat.specs.Faults.{Report}
 use Rattle.card.proofs.Theorems.{carried, carried-back}
 use Rattle.encoder.specs.declared.Encoded.{Encoded}
 use Rattle.encoder.specs.declared.Encoded.the-variants as encoded
-use Rattle.encoder.specs.Reports.{encodedReport}
+use Rattle.encoder.specs.Reports.{report}
 use Rattle.encoder.specs.Theorems.{EncodedInjective}
 
 abbrev encodedFrom : Report → Encoded
@@ -17,7 +17,7 @@ encodedFrom r =
     if eqb (r .number) 7 then encoded.StripeLength else
     encoded.Done)
 
-encoded-back : (a : Encoded) → encodedFrom (encodedReport a) ≡ a
+encoded-back : (a : Encoded) → encodedFrom (report a) ≡ a
 encoded-back encoded.Done = refl
 encoded-back (encoded.Card f) = carried-back f encoded.Card _
 encoded-back encoded.StripLength = refl

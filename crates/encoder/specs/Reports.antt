@@ -6,8 +6,8 @@ use Rattle.card.specs.Reports.{faultReport}
 use Rattle.encoder.specs.declared.Encoded.{Encoded}
 use Rattle.encoder.specs.declared.Encoded.the-variants.{Done, Card, StripLength, StripeLength}
 
-abbrev pub encodedReport : Encoded → Report
-encodedReport Done = accepted []
-encodedReport (Card f) = faultReport f
-encodedReport StripLength = refused 6 []
-encodedReport StripeLength = refused 7 []
+abbrev pub report : Encoded → Report
+report Done = accepted []
+report (Card f) = faultReport f
+report StripLength = refused 6 []
+report StripeLength = refused 7 []

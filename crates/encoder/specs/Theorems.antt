@@ -3,7 +3,7 @@
 -- Assumes nothing.
 use mathlib.Core.Path.{_≡_}
 use Rattle.encoder.specs.declared.Encoded.{Encoded}
-use Rattle.encoder.specs.Reports.{encodedReport}
+use Rattle.encoder.specs.Reports.{report}
 
 abbrev pub EncodedInjective : Type 0
-EncodedInjective = (a b : Encoded) → encodedReport a ≡ encodedReport b → a ≡ b
+EncodedInjective = (a b : Encoded) → report a ≡ report b → a ≡ b

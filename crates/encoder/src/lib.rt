@@ -13,7 +13,7 @@ ghost use Rattle.flat.specs.Cards.{codeIn};
 ghost use Rattle.flat.specs.Strips.{encoded};
 ghost use Rattle.flat.specs.Faults.{encodeReport, encodeStripe};
 ghost use Rattle.card.specs.Columns.{Columns};
-ghost use Rattle.encoder.specs.Reports.{encodedReport};
+ghost use Rattle.encoder.specs.Reports.{report};
 use card::CardCheck;
 use card::CardFault;
 
@@ -57,7 +57,7 @@ fn encode_columns(columns: &[u8], k: usize, m: usize, l: usize, stripe: &mut [u8
 
 // The encoder.
 pub fn encode(card: &[u8], l: usize, stripe: &mut [u8]) -> Encoded
-    ensures { λ r. ⌜ encodedReport r ≡ encodeReport (now (card .entry)) l (length (now (stripe .entry))) ⌝ }
+    ensures { λ r. ⌜ report r ≡ encodeReport (now (card .entry)) l (length (now (stripe .entry))) ⌝ }
     ensures { λ _. ⌜ now (stripe .exit) ≡ encodeStripe (now (card .entry)) l (now (stripe .entry)) ⌝ }
 {
     match card::check(card) {

@@ -8,7 +8,7 @@ use Rattle.flat.specs.Faults.{Report}
 use Rattle.card.proofs.Theorems.{carried, carried-back}
 use Rattle.equations.specs.declared.Told.{Told}
 use Rattle.equations.specs.declared.Told.the-variants.{Count, Card, NoDisk, Short}
-use Rattle.equations.specs.Reports.{toldReport}
+use Rattle.equations.specs.Reports.{report}
 use Rattle.equations.specs.Theorems.{ToldInjective}
 
 abbrev toldFrom : Report → Told
@@ -16,7 +16,7 @@ toldFrom r =
     carried r Card
     (if eqb (r .number) 9 then NoDisk else if eqb (r .number) 10 then Short (getD (r .values) 0 0) else Count (getD (r .values) 0 0))
 
-told-back : (a : Told) → toldFrom (toldReport a) ≡ a
+told-back : (a : Told) → toldFrom (report a) ≡ a
 told-back (Count n) = refl
 told-back (Card f) = carried-back f Card _
 told-back NoDisk = refl

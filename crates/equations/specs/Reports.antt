@@ -7,8 +7,8 @@ use Rattle.equations.specs.declared.Told.{Told}
 use Rattle.equations.specs.declared.Told.the-variants.{Count, Card, NoDisk, Short}
 
 -- the equation call
-abbrev pub toldReport : Told → Report
-toldReport (Count n) = accepted (n ∷ [])
-toldReport (Card f) = faultReport f
-toldReport NoDisk = refused 9 []
-toldReport (Short n) = refused 10 (n ∷ [])
+abbrev pub report : Told → Report
+report (Count n) = accepted (n ∷ [])
+report (Card f) = faultReport f
+report NoDisk = refused 9 []
+report (Short n) = refused 10 (n ∷ [])

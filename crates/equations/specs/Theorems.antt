@@ -3,7 +3,7 @@
 -- Assumes nothing.
 use mathlib.Core.Path.{_≡_}
 use Rattle.equations.specs.declared.Told.{Told}
-use Rattle.equations.specs.Reports.{toldReport}
+use Rattle.equations.specs.Reports.{report}
 
 abbrev pub ToldInjective : Type 0
-ToldInjective = (a b : Told) → toldReport a ≡ toldReport b → a ≡ b
+ToldInjective = (a b : Told) → report a ≡ report b → a ≡ b

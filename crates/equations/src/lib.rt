@@ -10,7 +10,7 @@ ghost use Rattle.flat.specs.Cards.{codeIn};
 ghost use Rattle.flat.specs.Equations.{equations};
 ghost use Rattle.flat.specs.Faults.{unlessRefused, listReport, listSlice, equationsReport, equationsSlice};
 ghost use Rattle.card.specs.Columns.{Columns};
-ghost use Rattle.equations.specs.Reports.{toldReport};
+ghost use Rattle.equations.specs.Reports.{report};
 use card::CardCheck;
 use card::CardFault;
 use marks::KEYS;
@@ -28,8 +28,8 @@ pub enum Told {
 // known. They are the minimal words of the checks' span that hold the disk, without it.
 fn list_columns(columns: &[u8], k: usize, m: usize, disk: usize, out: &mut [u32]) -> Told
     requires { ⌜ Columns k m (now columns) × (disk < k + m) ⌝ }
-    ensures { λ r. ⌜ toldReport r ≡ listReport (equations (codeIn k m (now (columns .entry))) disk) (length (now (out .entry))) ⌝ }
-    ensures { λ r. ⌜ now (out .exit) ≡ unlessRefused (toldReport r) (listSlice (equations (codeIn k m (now (columns .entry))) disk) (now (out .entry))) (now (out .entry)) ⌝ }
+    ensures { λ r. ⌜ report r ≡ listReport (equations (codeIn k m (now (columns .entry))) disk) (length (now (out .entry))) ⌝ }
+    ensures { λ r. ⌜ now (out .exit) ≡ unlessRefused (report r) (listSlice (equations (codeIn k m (now (columns .entry))) disk) (now (out .entry))) (now (out .entry)) ⌝ }
 {
     let basis = bases::checks(columns, k, m);
     let set = 1u32 << disk;
@@ -46,7 +46,7 @@ fn list_columns(columns: &[u8], k: usize, m: usize, disk: usize, out: &mut [u32]
 // The equation call: the equations of the disk into the slice, smaller size first, then smaller set
 // number.
 pub fn list(card: &[u8], disk: usize, out: &mut [u32]) -> Told
-    ensures { λ r. ⌜ toldReport r ≡ equationsReport (now (card .entry)) disk (length (now (out .entry))) ⌝ }
+    ensures { λ r. ⌜ report r ≡ equationsReport (now (card .entry)) disk (length (now (out .entry))) ⌝ }
     ensures { λ _. ⌜ now (out .exit) ≡ equationsSlice (now (card .entry)) disk (now (out .entry)) ⌝ }
 {
     match card::check(card) {

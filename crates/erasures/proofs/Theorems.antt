@@ -8,14 +8,14 @@ use Rattle.flat.specs.Faults.{Report}
 use Rattle.card.proofs.Theorems.{carried, carried-back}
 use Rattle.erasures.specs.declared.Listed.{Listed}
 use Rattle.erasures.specs.declared.Listed.the-variants as listed
-use Rattle.erasures.specs.Reports.{listedReport}
+use Rattle.erasures.specs.Reports.{report}
 use Rattle.erasures.specs.Theorems.{ListedInjective}
 
 abbrev listedFrom : Report → Listed
 listedFrom r =
     carried r listed.Card (if eqb (r .number) 10 then listed.Short (getD (r .values) 0 0) else listed.Count (getD (r .values) 0 0))
 
-listed-back : (a : Listed) → listedFrom (listedReport a) ≡ a
+listed-back : (a : Listed) → listedFrom (report a) ≡ a
 listed-back (listed.Count n) = refl
 listed-back (listed.Card f) = carried-back f listed.Card _
 listed-back (listed.Short n) = refl

@@ -6,7 +6,7 @@ use Rattle.card.specs.Reports.{faultReport}
 use Rattle.erasures.specs.declared.Listed.{Listed}
 use Rattle.erasures.specs.declared.Listed.the-variants as listed
 
-abbrev pub listedReport : Listed → Report
-listedReport (listed.Count n) = accepted (n ∷ [])
-listedReport (listed.Card f) = faultReport f
-listedReport (listed.Short n) = refused 10 (n ∷ [])
+abbrev pub report : Listed → Report
+report (listed.Count n) = accepted (n ∷ [])
+report (listed.Card f) = faultReport f
+report (listed.Short n) = refused 10 (n ∷ [])

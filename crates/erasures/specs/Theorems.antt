@@ -3,7 +3,7 @@
 -- Assumes nothing.
 use mathlib.Core.Path.{_≡_}
 use Rattle.erasures.specs.declared.Listed.{Listed}
-use Rattle.erasures.specs.Reports.{listedReport}
+use Rattle.erasures.specs.Reports.{report}
 
 abbrev pub ListedInjective : Type 0
-ListedInjective = (a b : Listed) → listedReport a ≡ listedReport b → a ≡ b
+ListedInjective = (a b : Listed) → report a ≡ report b → a ≡ b

@@ -12,7 +12,7 @@ ghost use Rattle.flat.specs.Erasures.{erasures, vector};
 ghost use Rattle.flat.specs.Faults.{unlessRefused, listReport, listSlice, erasuresReport, erasuresVector, erasuresSlice};
 ghost use Rattle.card.specs.Columns.{Columns};
 ghost use Rattle.words.specs.Listed.{sizes};
-ghost use Rattle.erasures.specs.Reports.{listedReport};
+ghost use Rattle.erasures.specs.Reports.{report};
 use card::CardCheck;
 use card::CardFault;
 use marks::KEYS;
@@ -47,9 +47,9 @@ fn vector(counts: [usize; KEYS], m: usize) -> [usize; 17]
 // The lister, on the columns of an accepted card: nothing is written before the count is known.
 fn list_columns(columns: &[u8], k: usize, m: usize, out: &mut [u32]) -> Listing
     requires { ⌜ Columns k m (now columns) ⌝ }
-    ensures { λ r. ⌜ listedReport (r .answer) ≡ listReport (erasures (codeIn k m (now (columns .entry)))) (length (now (out .entry))) ⌝ }
-    ensures { λ r. ⌜ r .vector ≡ padded 17 (unlessRefused (listedReport (r .answer)) (vector (codeIn k m (now (columns .entry)))) []) ⌝ }
-    ensures { λ r. ⌜ now (out .exit) ≡ unlessRefused (listedReport (r .answer)) (listSlice (erasures (codeIn k m (now (columns .entry)))) (now (out .entry))) (now (out .entry)) ⌝ }
+    ensures { λ r. ⌜ report (r .answer) ≡ listReport (erasures (codeIn k m (now (columns .entry)))) (length (now (out .entry))) ⌝ }
+    ensures { λ r. ⌜ r .vector ≡ padded 17 (unlessRefused (report (r .answer)) (vector (codeIn k m (now (columns .entry)))) []) ⌝ }
+    ensures { λ r. ⌜ now (out .exit) ≡ unlessRefused (report (r .answer)) (listSlice (erasures (codeIn k m (now (columns .entry)))) (now (out .entry))) (now (out .entry)) ⌝ }
 {
     let basis = bases::rows(columns, k, m);
     let mut marks = [0u64; 1024];
@@ -71,7 +71,7 @@ fn list_columns(columns: &[u8], k: usize, m: usize, out: &mut [u32]) -> Listing
 
 // The lister: all minimal erasures into the slice, smaller size first, then smaller data part.
 pub fn list(card: &[u8], out: &mut [u32]) -> Listing
-    ensures { λ r. ⌜ listedReport (r .answer) ≡ erasuresReport (now (card .entry)) (length (now (out .entry))) ⌝ }
+    ensures { λ r. ⌜ report (r .answer) ≡ erasuresReport (now (card .entry)) (length (now (out .entry))) ⌝ }
     ensures { λ r. ⌜ r .vector ≡ erasuresVector (now (card .entry)) (length (now (out .entry))) ⌝ }
     ensures { λ _. ⌜ now (out .exit) ≡ erasuresSlice (now (card .entry)) (now (out .entry)) ⌝ }
 {

@@ -6,7 +6,7 @@ use Rattle.card.specs.Reports.{faultReport}
 use Rattle.likeness.specs.declared.Likeness.{Likeness}
 use Rattle.likeness.specs.declared.Likeness.the-variants as likeness
 
-abbrev pub alikeReport : Likeness → Report
-alikeReport likeness.Alike = accepted (1 ∷ [])
-alikeReport likeness.Different = accepted (0 ∷ [])
-alikeReport (likeness.Card f) = faultReport f
+abbrev pub report : Likeness → Report
+report likeness.Alike = accepted (1 ∷ [])
+report likeness.Different = accepted (0 ∷ [])
+report (likeness.Card f) = faultReport f

@@ -3,7 +3,7 @@
 -- Assumes nothing.
 use mathlib.Core.Path.{_≡_}
 use Rattle.likeness.specs.declared.Likeness.{Likeness}
-use Rattle.likeness.specs.Reports.{alikeReport}
+use Rattle.likeness.specs.Reports.{report}
 
 abbrev pub AlikeInjective : Type 0
-AlikeInjective = (a b : Likeness) → alikeReport a ≡ alikeReport b → a ≡ b
+AlikeInjective = (a b : Likeness) → report a ≡ report b → a ≡ b

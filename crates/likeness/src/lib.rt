@@ -4,8 +4,8 @@
 // flat/specs/Faults.antt.
 ghost use mathlib.Core.Path.{_≡_};
 ghost use Rattle.flat.specs.Lists.{same};
-ghost use Rattle.flat.specs.Faults.{alikeReport as alikeOf};
-ghost use Rattle.likeness.specs.Reports.{alikeReport};
+ghost use Rattle.flat.specs.Faults.{alikeReport};
+ghost use Rattle.likeness.specs.Reports.{report};
 use card::CardCheck;
 use card::CardFault;
 
@@ -30,7 +30,7 @@ fn equal(a: [usize; 17], b: [usize; 17]) -> bool
 
 // Whether two cards are alike. The first card's refusals come before the second's.
 pub fn alike(first: &[u8], second: &[u8]) -> Likeness
-    ensures { λ r. ⌜ alikeReport r ≡ alikeOf (now (first .entry)) (now (second .entry)) ⌝ }
+    ensures { λ r. ⌜ report r ≡ alikeReport (now (first .entry)) (now (second .entry)) ⌝ }
 {
     match card::check(first) {
         CardCheck::Bad(fault) => Likeness::Card(fault),

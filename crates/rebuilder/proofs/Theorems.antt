@@ -8,7 +8,7 @@ use Rattle.flat.specs.Faults.{Report}
 use Rattle.card.proofs.Theorems.{carried, carried-back}
 use Rattle.rebuilder.specs.declared.Rebuilt.{Rebuilt}
 use Rattle.rebuilder.specs.declared.Rebuilt.the-variants as rebuilt
-use Rattle.rebuilder.specs.Reports.{rebuiltReport}
+use Rattle.rebuilder.specs.Reports.{report}
 use Rattle.rebuilder.specs.Theorems.{RebuiltInjective}
 
 abbrev rebuiltFrom : Report → Rebuilt
@@ -21,7 +21,7 @@ rebuiltFrom r =
     if eqb (r .number) 12 then rebuilt.Inconsistent else
     rebuilt.Disks (getD (r .values) 0 0))
 
-rebuilt-back : (a : Rebuilt) → rebuiltFrom (rebuiltReport a) ≡ a
+rebuilt-back : (a : Rebuilt) → rebuiltFrom (report a) ≡ a
 rebuilt-back (rebuilt.Disks n) = refl
 rebuilt-back (rebuilt.Card f) = carried-back f rebuilt.Card _
 rebuilt-back rebuilt.StripLength = refl

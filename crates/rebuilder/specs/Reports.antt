@@ -7,11 +7,11 @@ use Rattle.rebuilder.specs.declared.Rebuilt.{Rebuilt}
 use Rattle.rebuilder.specs.declared.Rebuilt.the-variants as rebuilt
 
 -- the rebuilder
-abbrev pub rebuiltReport : Rebuilt → Report
-rebuiltReport (rebuilt.Disks n) = accepted (n ∷ [])
-rebuiltReport (rebuilt.Card f) = faultReport f
-rebuiltReport rebuilt.StripLength = refused 6 []
-rebuiltReport rebuilt.OutsideSet = refused 8 []
-rebuiltReport rebuilt.StripeLength = refused 7 []
-rebuiltReport rebuilt.Fatal = refused 11 []
-rebuiltReport rebuilt.Inconsistent = refused 12 []
+abbrev pub report : Rebuilt → Report
+report (rebuilt.Disks n) = accepted (n ∷ [])
+report (rebuilt.Card f) = faultReport f
+report rebuilt.StripLength = refused 6 []
+report rebuilt.OutsideSet = refused 8 []
+report rebuilt.StripeLength = refused 7 []
+report rebuilt.Fatal = refused 11 []
+report rebuilt.Inconsistent = refused 12 []

@@ -3,7 +3,7 @@
 -- Assumes nothing.
 use mathlib.Core.Path.{_≡_}
 use Rattle.rebuilder.specs.declared.Rebuilt.{Rebuilt}
-use Rattle.rebuilder.specs.Reports.{rebuiltReport}
+use Rattle.rebuilder.specs.Reports.{report}
 
 abbrev pub RebuiltInjective : Type 0
-RebuiltInjective = (a b : Rebuilt) → rebuiltReport a ≡ rebuiltReport b → a ≡ b
+RebuiltInjective = (a b : Rebuilt) → report a ≡ report b → a ≡ b

@@ -11,7 +11,7 @@ ghost use Rattle.flat.specs.Cards.{codeIn};
 ghost use Rattle.flat.specs.Rebuilding.{agreeing, restored};
 ghost use Rattle.flat.specs.Faults.{unlessRefused, disksReport, rebuildTests, rebuildReport, rebuildStripe};
 ghost use Rattle.card.specs.Columns.{Columns};
-ghost use Rattle.rebuilder.specs.Reports.{rebuiltReport};
+ghost use Rattle.rebuilder.specs.Reports.{report};
 use card::CardCheck;
 use card::CardFault;
 
@@ -33,8 +33,8 @@ pub enum Rebuilt {
 fn restore(columns: &[u8], k: usize, m: usize, l: usize, lost: u32, stripe: &mut [u8]) -> Rebuilt
     requires { ⌜ Columns k m (now columns) ⌝ }
     requires { ⌜ (1 ≤ l) × (l ≤ 65536) × (lost < 2 ^ (k + m)) × (length (now stripe) ≡ (k + m) * l) ⌝ }
-    ensures { λ r. ⌜ rebuiltReport r ≡ disksReport (codeIn k m (now (columns .entry))) l lost (now (stripe .entry)) ⌝ }
-    ensures { λ r. ⌜ now (stripe .exit) ≡ unlessRefused (rebuiltReport r) (restored (codeIn k m (now (columns .entry))) l lost (now (stripe .entry)) (agreeing (codeIn k m (now (columns .entry))) l lost (now (stripe .entry)))) (now (stripe .entry)) ⌝ }
+    ensures { λ r. ⌜ report r ≡ disksReport (codeIn k m (now (columns .entry))) l lost (now (stripe .entry)) ⌝ }
+    ensures { λ r. ⌜ now (stripe .exit) ≡ unlessRefused (report r) (restored (codeIn k m (now (columns .entry))) l lost (now (stripe .entry)) (agreeing (codeIn k m (now (columns .entry))) l lost (now (stripe .entry)))) (now (stripe .entry)) ⌝ }
 {
     let n = k + m;
     if repairs::undetermined(bases::rows(columns, k, m), lost) != 0 {
@@ -61,8 +61,8 @@ fn rebuild_columns(
     stripe: &mut [u8],
 ) -> Rebuilt
     requires { ⌜ Columns k m (now columns) ⌝ }
-    ensures { λ r. ⌜ rebuiltReport r ≡ rebuildTests (codeIn k m (now (columns .entry))) l lost (now (stripe .entry)) ⌝ }
-    ensures { λ r. ⌜ now (stripe .exit) ≡ unlessRefused (rebuiltReport r) (restored (codeIn k m (now (columns .entry))) l lost (now (stripe .entry)) (agreeing (codeIn k m (now (columns .entry))) l lost (now (stripe .entry)))) (now (stripe .entry)) ⌝ }
+    ensures { λ r. ⌜ report r ≡ rebuildTests (codeIn k m (now (columns .entry))) l lost (now (stripe .entry)) ⌝ }
+    ensures { λ r. ⌜ now (stripe .exit) ≡ unlessRefused (report r) (restored (codeIn k m (now (columns .entry))) l lost (now (stripe .entry)) (agreeing (codeIn k m (now (columns .entry))) l lost (now (stripe .entry)))) (now (stripe .entry)) ⌝ }
 {
     if !card::length_ok(l) {
         return Rebuilt::StripLength;
@@ -78,7 +78,7 @@ fn rebuild_columns(
 
 // The rebuilder: the lost strips become those of the only content that agrees with the survivors.
 pub fn rebuild(card: &[u8], l: usize, lost: u32, stripe: &mut [u8]) -> Rebuilt
-    ensures { λ r. ⌜ rebuiltReport r ≡ rebuildReport (now (card .entry)) l lost (now (stripe .entry)) ⌝ }
+    ensures { λ r. ⌜ report r ≡ rebuildReport (now (card .entry)) l lost (now (stripe .entry)) ⌝ }
     ensures { λ _. ⌜ now (stripe .exit) ≡ rebuildStripe (now (card .entry)) l lost (now (stripe .entry)) ⌝ }
 {
     match card::check(card) {

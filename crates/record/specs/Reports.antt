@@ -6,8 +6,8 @@ use Rattle.record_reader.specs.Reports.{recordFaultReport}
 use Rattle.record.specs.declared.bodies.BodyCheck.{BodyCheck}
 use Rattle.record.specs.declared.bodies.BodyCheck.the-variants as body
 
-abbrev pub thereReport : BodyCheck → Report
-thereReport body.There = accepted []
-thereReport (body.Record f) = recordFaultReport f
-thereReport body.NoDisk = refused 9 []
-thereReport body.Lost = refused 16 []
+abbrev pub report : BodyCheck → Report
+report body.There = accepted []
+report (body.Record f) = recordFaultReport f
+report body.NoDisk = refused 9 []
+report body.Lost = refused 16 []

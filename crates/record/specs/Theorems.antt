@@ -3,7 +3,7 @@
 -- Assumes nothing.
 use mathlib.Core.Path.{_≡_}
 use Rattle.record.specs.declared.bodies.BodyCheck.{BodyCheck}
-use Rattle.record.specs.Reports.{thereReport}
+use Rattle.record.specs.Reports.{report}
 
 abbrev pub ThereInjective : Type 0
-ThereInjective = (a b : BodyCheck) → thereReport a ≡ thereReport b → a ≡ b
+ThereInjective = (a b : BodyCheck) → report a ≡ report b → a ≡ b

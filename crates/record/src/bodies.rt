@@ -6,7 +6,7 @@ ghost use lib.ListN.{length};
 ghost use Rattle.record_format.specs.Records.{offsetIn, bodyLengthIn};
 ghost use Rattle.flat.specs.Faults.{unlessRefused};
 ghost use Rattle.record_format.specs.Faults.{bodyReport, bodyPart};
-ghost use Rattle.record.specs.Reports.{thereReport};
+ghost use Rattle.record.specs.Reports.{report};
 use record_reader::RecordCheck;
 use record_reader::RecordFault;
 use record_reader::check;
@@ -28,7 +28,7 @@ pub struct BodyPlace {
 
 // Where the strip of the disk stands.
 pub fn body_place(file: &[u8], disk: usize) -> BodyPlace
-    ensures { λ r. ⌜ thereReport (r .check) ≡ bodyReport (now (file .entry)) disk ⌝ }
+    ensures { λ r. ⌜ report (r .check) ≡ bodyReport (now (file .entry)) disk ⌝ }
     ensures { λ r. ⌜ (r .at ≡ unlessRefused (bodyReport (now (file .entry)) disk) (offsetIn (now (file .entry)) (suc disk)) 0) × (r .len ≡ unlessRefused (bodyReport (now (file .entry)) disk) (bodyLengthIn (now (file .entry)) (suc disk)) 0) ⌝ }
     ensures { λ r. ⌜ r .at + r .len ≤ length (now (file .entry)) ⌝ }
 {
@@ -66,7 +66,7 @@ pub fn body_place(file: &[u8], disk: usize) -> BodyPlace
 
 // The call beside the body call: whether the strip is there.
 pub fn body_check(file: &[u8], disk: usize) -> BodyCheck
-    ensures { λ r. ⌜ thereReport r ≡ bodyReport (now (file .entry)) disk ⌝ }
+    ensures { λ r. ⌜ report r ≡ bodyReport (now (file .entry)) disk ⌝ }
 {
     let found = body_place(file, disk);
     let check = found.check;

@@ -2,9 +2,9 @@
 //
 // Every function assumes that the report fits, as there.
 ghost use mathlib.Core.Path.{_≡_};
-ghost use Rattle.record_writer.specs.Reports.{recordWrittenReport};
+ghost use Rattle.record_writer.specs.Reports.{report as recordWrittenReport};
 ghost use Rattle.record_reader.specs.Reports.{recordFaultReport};
-ghost use Rattle.record.specs.Reports.{thereReport};
+ghost use Rattle.record.specs.Reports.{report as thereReport};
 ghost use Rattle.bounds.specs.Coded.{coded, Fits};
 use codes::fault_code;
 use codes::packed;

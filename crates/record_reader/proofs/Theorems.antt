@@ -10,7 +10,7 @@ use Rattle.record_reader.specs.declared.RecordFault.{RecordFault}
 use Rattle.record_reader.specs.declared.RecordFault.the-variants as fault
 use Rattle.record_reader.specs.declared.RecordCheck.{RecordCheck}
 use Rattle.record_reader.specs.declared.RecordCheck.the-variants as check
-use Rattle.record_reader.specs.Reports.{recordFaultReport, recordCheckReport}
+use Rattle.record_reader.specs.Reports.{recordFaultReport, report}
 use Rattle.record_reader.specs.Theorems.{FaultInjective, CheckInjective}
 
 -- an answer that carries a record's fault, where the number is one of a record's, else another
@@ -35,7 +35,7 @@ abbrev checkFrom : Report → RecordCheck
 checkFrom r =
     sent r check.Bad (check.Good (getD (r .values) 0 0) (getD (r .values) 1 0) (getD (r .values) 2 0) (getD (r .values) 3 0))
 
-check-back : (a : RecordCheck) → checkFrom (recordCheckReport a) ≡ a
+check-back : (a : RecordCheck) → checkFrom (report a) ≡ a
 check-back (check.Good k m l lost) = refl
 check-back (check.Bad f) = sent-back f check.Bad _
 

@@ -17,6 +17,6 @@ recordFaultReport (fault.Card f) = faultReport f
 recordFaultReport fault.FileLength = refused 15 []
 
 -- the reader
-abbrev pub recordCheckReport : RecordCheck → Report
-recordCheckReport (check.Good k m l lost) = accepted (k ∷ m ∷ l ∷ lost ∷ [])
-recordCheckReport (check.Bad f) = recordFaultReport f
+abbrev pub report : RecordCheck → Report
+report (check.Good k m l lost) = accepted (k ∷ m ∷ l ∷ lost ∷ [])
+report (check.Bad f) = recordFaultReport f

@@ -11,7 +11,7 @@ ghost use lib.ListN.{length};
 ghost use Rattle.flat.specs.Cards.{code};
 ghost use Rattle.record_format.specs.Records.{lengthIn, markOk, entriesOk, cardEntryOk, lostIn, stripEntriesOk};
 ghost use Rattle.record_format.specs.Faults.{stripsReport, readReport};
-ghost use Rattle.record_reader.specs.Reports.{recordCheckReport};
+ghost use Rattle.record_reader.specs.Reports.{report};
 use crate::RecordCheck;
 use crate::RecordFault;
 use record_contents::body_at;
@@ -99,7 +99,7 @@ fn entries_stand(file: &[u8], start: usize, l: usize, lost: u32, n: usize) -> bo
 // of l bytes, a card of k and m, and as many entries as it needs.
 pub fn check_strips(file: &[u8], k: usize, m: usize, l: usize) -> RecordCheck
     requires { ⌜ (1 ≤ k) × (k ≤ 16) × (m ≤ 16) × (l ≤ 65536) × (20 + 10 * (k + m) ≤ length (now file)) × (l ≡ lengthIn (now file)) ⌝ }
-    ensures { λ r. ⌜ recordCheckReport r ≡ stripsReport (code k m []) (now (file .entry)) (readReport (now (file .entry)) (code k m [])) ⌝ }
+    ensures { λ r. ⌜ report r ≡ stripsReport (code k m []) (now (file .entry)) (readReport (now (file .entry)) (code k m [])) ⌝ }
 {
     let n = k + m;
     let start = strips_at(n, m);

@@ -4,7 +4,7 @@
 // is answered for which input in record_format/specs/Faults.antt.
 ghost use mathlib.Core.Path.{_≡_};
 ghost use Rattle.record_format.specs.Faults.{recordReport, recordColumns};
-ghost use Rattle.record_reader.specs.Reports.{recordCheckReport};
+ghost use Rattle.record_reader.specs.Reports.{report};
 use card::CardCheck;
 use card::CardFault;
 
@@ -41,7 +41,7 @@ pub struct RecordRead {
 
 // Whether the bytes are a record, and of what.
 pub fn check(file: &[u8]) -> RecordCheck
-    ensures { λ r. ⌜ recordCheckReport r ≡ recordReport (now (file .entry)) ⌝ }
+    ensures { λ r. ⌜ report r ≡ recordReport (now (file .entry)) ⌝ }
 {
     if !checks::mark_ok(file) {
         return RecordCheck::Bad(RecordFault::Mark);
@@ -72,7 +72,7 @@ pub fn check(file: &[u8]) -> RecordCheck
 
 // The record reader: k, m, the columns, the length of the strips and the lost set.
 pub fn read(file: &[u8]) -> RecordRead
-    ensures { λ r. ⌜ (recordCheckReport (r .check) ≡ recordReport (now (file .entry))) × (r .columns ≡ recordColumns (now (file .entry))) ⌝ }
+    ensures { λ r. ⌜ (report (r .check) ≡ recordReport (now (file .entry))) × (r .columns ≡ recordColumns (now (file .entry))) ⌝ }
 {
     let check = check(file);
     match check {

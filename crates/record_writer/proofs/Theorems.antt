@@ -8,7 +8,7 @@ use Rattle.flat.specs.Faults.{Report}
 use Rattle.card.proofs.Theorems.{carried, carried-back}
 use Rattle.record_writer.specs.declared.RecordWritten.{RecordWritten}
 use Rattle.record_writer.specs.declared.RecordWritten.the-variants as written
-use Rattle.record_writer.specs.Reports.{recordWrittenReport}
+use Rattle.record_writer.specs.Reports.{report}
 use Rattle.record_writer.specs.Theorems.{WrittenInjective}
 
 abbrev writtenFrom : Report → RecordWritten
@@ -20,7 +20,7 @@ writtenFrom r =
     if eqb (r .number) 16 then written.Output else
     written.Length (getD (r .values) 0 0))
 
-written-back : (a : RecordWritten) → writtenFrom (recordWrittenReport a) ≡ a
+written-back : (a : RecordWritten) → writtenFrom (report a) ≡ a
 written-back (written.Length t) = refl
 written-back (written.Card f) = carried-back f written.Card _
 written-back written.StripLength = refl

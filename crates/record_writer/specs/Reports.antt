@@ -6,10 +6,10 @@ use Rattle.card.specs.Reports.{faultReport}
 use Rattle.record_writer.specs.declared.RecordWritten.{RecordWritten}
 use Rattle.record_writer.specs.declared.RecordWritten.the-variants as written
 
-abbrev pub recordWrittenReport : RecordWritten → Report
-recordWrittenReport (written.Length t) = accepted (t ∷ [])
-recordWrittenReport (written.Card f) = faultReport f
-recordWrittenReport written.StripLength = refused 6 []
-recordWrittenReport written.OutsideSet = refused 8 []
-recordWrittenReport written.StripeLength = refused 7 []
-recordWrittenReport written.Output = refused 16 []
+abbrev pub report : RecordWritten → Report
+report (written.Length t) = accepted (t ∷ [])
+report (written.Card f) = faultReport f
+report written.StripLength = refused 6 []
+report written.OutsideSet = refused 8 []
+report written.StripeLength = refused 7 []
+report written.Output = refused 16 []

@@ -3,7 +3,7 @@
 -- Assumes nothing.
 use mathlib.Core.Path.{_≡_}
 use Rattle.record_writer.specs.declared.RecordWritten.{RecordWritten}
-use Rattle.record_writer.specs.Reports.{recordWrittenReport}
+use Rattle.record_writer.specs.Reports.{report}
 
 abbrev pub WrittenInjective : Type 0
-WrittenInjective = (a b : RecordWritten) → recordWrittenReport a ≡ recordWrittenReport b → a ≡ b
+WrittenInjective = (a b : RecordWritten) → report a ≡ report b → a ≡ b

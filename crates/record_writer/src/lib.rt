@@ -13,7 +13,7 @@ ghost use Rattle.flat.specs.Faults.{unlessRefused};
 ghost use Rattle.record_format.specs.Records.{recordBytes};
 ghost use Rattle.record_format.specs.Faults.{recordWriteTests, recordWriteReport, recordWriteOutput};
 ghost use Rattle.flat.specs.Lists.{put};
-ghost use Rattle.record_writer.specs.Reports.{recordWrittenReport};
+ghost use Rattle.record_writer.specs.Reports.{report};
 use card::CardCheck;
 use card::CardFault;
 
@@ -32,7 +32,7 @@ pub enum RecordWritten {
 
 // Whether the record is to be written.
 fn accepts(answer: RecordWritten) -> bool
-    ensures { λ r. ⌜ r ≡ eqb (recordWrittenReport answer .number) 0 ⌝ }
+    ensures { λ r. ⌜ r ≡ eqb (report answer .number) 0 ⌝ }
 {
     match answer {
         RecordWritten::Length(_) => true,
@@ -47,7 +47,7 @@ fn accepts(answer: RecordWritten) -> bool
 // What is answered for a good card of k and m, a stripe of size bytes and an output of room bytes.
 fn decide(k: usize, m: usize, l: usize, lost: u32, size: usize, room: usize) -> RecordWritten
     requires { ⌜ (1 ≤ k) × (k ≤ 16) × (m ≤ 16) ⌝ }
-    ensures { λ r. ⌜ recordWrittenReport r ≡ recordWriteTests (code k m []) l lost size room ⌝ }
+    ensures { λ r. ⌜ report r ≡ recordWriteTests (code k m []) l lost size room ⌝ }
 {
     let n = k + m;
     if !card::length_ok(l) {
@@ -77,8 +77,8 @@ fn write_good(
     out: &mut [u8],
 ) -> RecordWritten
     requires { ⌜ (1 ≤ k) × (k ≤ 16) × (m ≤ 16) × (length (now card) ≡ 2 + 2 * m) ⌝ }
-    ensures { λ r. ⌜ recordWrittenReport r ≡ recordWriteTests (code k m []) l lost (length (now (stripe .entry))) (length (now (out .entry))) ⌝ }
-    ensures { λ r. ⌜ now (out .exit) ≡ unlessRefused (recordWrittenReport r) (put (now (out .entry)) 0 (recordBytes (now (card .entry)) (k + m) l lost (now (stripe .entry)))) (now (out .entry)) ⌝ }
+    ensures { λ r. ⌜ report r ≡ recordWriteTests (code k m []) l lost (length (now (stripe .entry))) (length (now (out .entry))) ⌝ }
+    ensures { λ r. ⌜ now (out .exit) ≡ unlessRefused (report r) (put (now (out .entry)) 0 (recordBytes (now (card .entry)) (k + m) l lost (now (stripe .entry)))) (now (out .entry)) ⌝ }
 {
     let answer = decide(k, m, l, lost, stripe.len(), out.len());
     if accepts(answer) {
@@ -89,7 +89,7 @@ fn write_good(
 
 // The writer: the record of the stripe at the output's front.
 pub fn write(card: &[u8], l: usize, lost: u32, stripe: &[u8], out: &mut [u8]) -> RecordWritten
-    ensures { λ r. ⌜ recordWrittenReport r ≡ recordWriteReport (now (card .entry)) l lost (length (now (stripe .entry))) (length (now (out .entry))) ⌝ }
+    ensures { λ r. ⌜ report r ≡ recordWriteReport (now (card .entry)) l lost (length (now (stripe .entry))) (length (now (out .entry))) ⌝ }
     ensures { λ _. ⌜ now (out .exit) ≡ recordWriteOutput (now (card .entry)) l lost (now (stripe .entry)) (now (out .entry)) ⌝ }
 {
     match card::check(card) {

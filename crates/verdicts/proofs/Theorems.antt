@@ -8,7 +8,7 @@ use Rattle.flat.specs.Faults.{Report}
 use Rattle.card.proofs.Theorems.{carried, carried-back}
 use Rattle.verdicts.specs.declared.SetVerdict.{SetVerdict}
 use Rattle.verdicts.specs.declared.SetVerdict.the-variants as verdict
-use Rattle.verdicts.specs.Reports.{verdictReport}
+use Rattle.verdicts.specs.Reports.{report}
 use Rattle.verdicts.specs.Theorems.{VerdictInjective}
 
 abbrev verdictFrom : Report → SetVerdict
@@ -16,7 +16,7 @@ verdictFrom r =
     carried r verdict.Card
     (if eqb (r .number) 8 then verdict.OutsideSet else if eqb (getD (r .values) 0 0) 1 then verdict.Fatal else verdict.Recoverable)
 
-verdict-back : (a : SetVerdict) → verdictFrom (verdictReport a) ≡ a
+verdict-back : (a : SetVerdict) → verdictFrom (report a) ≡ a
 verdict-back verdict.Fatal = refl
 verdict-back verdict.Recoverable = refl
 verdict-back (verdict.Card f) = carried-back f verdict.Card _

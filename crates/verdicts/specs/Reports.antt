@@ -6,8 +6,8 @@ use Rattle.card.specs.Reports.{faultReport}
 use Rattle.verdicts.specs.declared.SetVerdict.{SetVerdict}
 use Rattle.verdicts.specs.declared.SetVerdict.the-variants as verdict
 
-abbrev pub verdictReport : SetVerdict → Report
-verdictReport verdict.Fatal = accepted (1 ∷ [])
-verdictReport verdict.Recoverable = accepted (0 ∷ [])
-verdictReport (verdict.Card f) = faultReport f
-verdictReport verdict.OutsideSet = refused 8 []
+abbrev pub report : SetVerdict → Report
+report verdict.Fatal = accepted (1 ∷ [])
+report verdict.Recoverable = accepted (0 ∷ [])
+report (verdict.Card f) = faultReport f
+report verdict.OutsideSet = refused 8 []

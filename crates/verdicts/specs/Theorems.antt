@@ -3,7 +3,7 @@
 -- Assumes nothing.
 use mathlib.Core.Path.{_≡_}
 use Rattle.verdicts.specs.declared.SetVerdict.{SetVerdict}
-use Rattle.verdicts.specs.Reports.{verdictReport}
+use Rattle.verdicts.specs.Reports.{report}
 
 abbrev pub VerdictInjective : Type 0
-VerdictInjective = (a b : SetVerdict) → verdictReport a ≡ verdictReport b → a ≡ b
+VerdictInjective = (a b : SetVerdict) → report a ≡ report b → a ≡ b

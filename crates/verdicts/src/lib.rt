@@ -4,9 +4,9 @@
 // flat/specs/Faults.antt.
 ghost use mathlib.Core.Path.{_≡_};
 ghost use Rattle.flat.specs.Cards.{codeIn};
-ghost use Rattle.flat.specs.Faults.{verdictTests, verdictReport as verdictOf};
+ghost use Rattle.flat.specs.Faults.{verdictTests, verdictReport};
 ghost use Rattle.card.specs.Columns.{Columns};
-ghost use Rattle.verdicts.specs.Reports.{verdictReport};
+ghost use Rattle.verdicts.specs.Reports.{report};
 use card::CardCheck;
 use card::CardFault;
 
@@ -21,7 +21,7 @@ pub enum SetVerdict {
 // The verdict, on the columns of an accepted card: a set is fatal where some disk stays undetermined.
 fn verdict_columns(columns: &[u8], k: usize, m: usize, set: u32) -> SetVerdict
     requires { ⌜ Columns k m (now columns) ⌝ }
-    ensures { λ r. ⌜ verdictReport r ≡ verdictTests (codeIn k m (now (columns .entry))) set ⌝ }
+    ensures { λ r. ⌜ report r ≡ verdictTests (codeIn k m (now (columns .entry))) set ⌝ }
 {
     if !gf2::below(set, (k + m) as u32) {
         return SetVerdict::OutsideSet;
@@ -34,7 +34,7 @@ fn verdict_columns(columns: &[u8], k: usize, m: usize, set: u32) -> SetVerdict
 
 // The verdict call: whether the loss of the set is fatal.
 pub fn verdict(card: &[u8], set: u32) -> SetVerdict
-    ensures { λ r. ⌜ verdictReport r ≡ verdictOf (now (card .entry)) set ⌝ }
+    ensures { λ r. ⌜ report r ≡ verdictReport (now (card .entry)) set ⌝ }
 {
     match card::check(card) {
         CardCheck::Bad(fault) => SetVerdict::Card(fault),

@@ -9,7 +9,7 @@ use Rattle.flat.specs.Faults.{cardWriteReport}
 use Rattle.flat.proofs.Cards.{count-in}
 use Rattle.flat.proofs.RoundTrip.{writable}
 use Rattle.card_writer.specs.declared.CardWritten.the-variants.{Done}
-use Rattle.card_writer.specs.Reports.{writtenReport}
+use Rattle.card_writer.specs.Reports.{report}
 use Rattle.card_writer.proofs.Laws.{buffer-refused, buffer-other, buffer-written}
 use Rattle.card_writer.proofs.write.Statement.{statement}
 use Rattle.card_writer.proofs.write.Tie as tie
@@ -32,8 +32,8 @@ start c = c .before .before .before .before .before
 
 done : (c : tie.After-enum-told3) →
     let a = start c .args in
-    writtenReport Done ≡ cardWriteReport (code (a .k) (a .m) (now (a .columns))) (length (now (a .out)))
-done c = ap writtenReport (sym (c .enum-told3 .given .1)) ∙ c .before .before .write-check .ensures
+    report Done ≡ cardWriteReport (code (a .k) (a .m) (now (a .columns))) (length (now (a .out)))
+done c = ap report (sym (c .enum-told3 .given .1)) ∙ c .before .before .write-check .ensures
 
 put-requires : tie.Need-put-requires
 put-requires c κs =
@@ -43,12 +43,12 @@ put-requires c κs =
 returns : tie.Need-returns
 returns c =
     let w = c .before .before .write-check .ensures in
-    (w, buffer-refused _ _ (c .enum-told .given .0 .0) (ap writtenReport (sym (c .enum-told .given .1)) ∙ w))
+    (w, buffer-refused _ _ (c .enum-told .given .0 .0) (ap report (sym (c .enum-told .given .1)) ∙ w))
 
 returns-2 : tie.Need-returns-2
 returns-2 c =
     let w = c .before .before .write-check .ensures in
-    (w, buffer-other _ _ (ap writtenReport (sym (c .enum-told2 .given .1)) ∙ w))
+    (w, buffer-other _ _ (ap report (sym (c .enum-told2 .given .1)) ∙ w))
 
 same-length : tie.Need-same-length
 same-length c = search needs

@@ -7,7 +7,7 @@ use lib.ListN.{length}
 use Rattle.flat.specs.Faults.{equationsReport}
 use Rattle.card.specs.Reports.{checkReport}
 use Rattle.card.proofs.Callers.{GoodCard, good}
-use Rattle.equations.specs.Reports.{toldReport}
+use Rattle.equations.specs.Reports.{report}
 use Rattle.equations.proofs.Laws.{bad-report, bad-slice, outside-report, outside-slice, good-report, good-slice}
 use Rattle.equations.proofs.list.Statement.{statement}
 use Rattle.equations.proofs.list.Tie as tie
@@ -59,7 +59,7 @@ returns-3 c =
     let s = l .before in
     let g = known s in
     let a = start s .args in
-    let e : toldReport (v .result) ≡ equationsReport (now (a .card)) (a .disk) (length (now (a .out))) =
+    let e : report (v .result) ≡ equationsReport (now (a .card)) (a .disk) (length (now (a .out))) =
     v .ensures .0 ∙ rw are (good-report _ _ _ _ g _ (l .if1 .left)) in
     (e, v .ensures .1 ∙ rw are (good-slice _ _ _ _ g _ _ e))
 

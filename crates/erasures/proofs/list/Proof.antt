@@ -9,7 +9,7 @@ use lib.ListN.{length}
 use Rattle.flat.specs.Faults.{erasuresReport}
 use Rattle.card.specs.Reports.{checkReport}
 use Rattle.card.proofs.Callers.{GoodCard, good}
-use Rattle.erasures.specs.Reports.{listedReport}
+use Rattle.erasures.specs.Reports.{report}
 use Rattle.erasures.proofs.Answered.{bad-report, bad-vector, bad-slice, good-report, good-vector, good-slice}
 use Rattle.erasures.proofs.list.Statement.{statement}
 use Rattle.erasures.proofs.list.Tie as tie
@@ -53,7 +53,7 @@ returns-2 c =
     let slice = now (s .before .before .before .before .before .before .args .out) in
     let v = d .list-columns in
     let are = d .before .before .columns .ensures in
-    let e : listedReport (v .result .answer) ≡ erasuresReport (cardAt s) (length slice) = v .ensures .0 ∙ rw are (good-report _ _ _ g _) in (
+    let e : report (v .result .answer) ≡ erasuresReport (cardAt s) (length slice) = v .ensures .0 ∙ rw are (good-report _ _ _ g _) in (
       e,
       (
         v .ensures .1 .0 ∙ rw are (good-vector _ _ _ g _ _ e),

@@ -9,7 +9,7 @@ use denote.Ref.{now}
 use Rattle.flat.specs.Faults.{rebuildReport}
 use Rattle.card.specs.Reports.{checkReport}
 use Rattle.card.proofs.Callers.{GoodCard, good}
-use Rattle.rebuilder.specs.Reports.{rebuiltReport}
+use Rattle.rebuilder.specs.Reports.{report}
 use Rattle.rebuilder.proofs.Answered.{good-report, good-stripe, bad-report, bad-stripe}
 use Rattle.rebuilder.proofs.rebuild.Statement.{statement}
 use Rattle.rebuilder.proofs.rebuild.Tie as tie
@@ -53,7 +53,7 @@ returns-2 c =
     let g = known s in
     let v = d .rebuild-columns in
     let are = d .before .before .columns .ensures in
-    let e : rebuiltReport (v .result) ≡ rebuildReport (cardAt s) (a .l) (a .lost) (now (a .stripe)) =
+    let e : report (v .result) ≡ rebuildReport (cardAt s) (a .l) (a .lost) (now (a .stripe)) =
     v .ensures .0 ∙ rw are (sym (good-report _ _ _ _ _ _ g)) in
     (e, v .ensures .1 ∙ rw are (good-stripe _ _ _ _ _ _ _ g e))
 

@@ -10,7 +10,7 @@ use Rattle.flat.specs.Cards.{cardLength}
 use Rattle.record_format.specs.Records.{entryCount, bodiesAt, stripsAt}
 use Rattle.flat.specs.Faults.{accepted}
 use Rattle.record_format.specs.Faults.{recordReport}
-use Rattle.record_reader.specs.Reports.{recordCheckReport}
+use Rattle.record_reader.specs.Reports.{report}
 use Rattle.record_reader.proofs.Callers.{GoodRecord, good, card-lent, columns-good, columns-none}
 use Rattle.record_reader.proofs.read.Statement.{statement}
 use Rattle.record_reader.proofs.read.Tie as tie
@@ -42,7 +42,7 @@ module _ (c : tie.After-known-told) where
   lostAt = c .before .check2 .given .0 .1 .1 .1 .0
 
 found : (c : tie.After-known-told) → accepted (kAt c ∷ mAt c ∷ lAt c ∷ lostAt c ∷ []) ≡ recordReport (fileAt c)
-found c = ap recordCheckReport (sym (c .before .check2 .given .1)) ∙ c .before .before .before .check .ensures
+found c = ap report (sym (c .before .check2 .given .1)) ∙ c .before .before .before .check .ensures
 
 known : (c : tie.After-known-told) → GoodRecord (fileAt c) (kAt c) (mAt c) (lAt c) (lostAt c)
 known c = good _ _ _ _ _ (found c)
@@ -76,7 +76,7 @@ read-requires c κs = search needs
 returns : tie.Need-returns
 returns c =
     let e = c .before .before .check .ensures in
-    (e, columns-none _ (c .enum-told .given .0 .0) (ap recordCheckReport (sym (c .enum-told .given .1)) ∙ e))
+    (e, columns-none _ (c .enum-told .given .0 .0) (ap report (sym (c .enum-told .given .1)) ∙ e))
 
 returns-2 : tie.Need-returns-2
 returns-2 c =

@@ -4,7 +4,7 @@ use mathlib.Core.Path.{sym, ap, _∙_}
 use mathlib.Core.Bool.{Bool}
 use lib.Dec.{eqb}
 use Rattle.record_writer.specs.declared.RecordWritten.{RecordWritten}
-use Rattle.record_writer.specs.Reports.{recordWrittenReport}
+use Rattle.record_writer.specs.Reports.{report}
 use Rattle.card.proofs.Laws.{fault-refuses}
 use borrow.Author.Needs.{needs}
 use Rattle.record_writer.proofs.accepts.Statement.{statement}
@@ -12,7 +12,7 @@ use Rattle.record_writer.proofs.accepts.Tie as tie
 
 -- the number of an answer, tested
 abbrev zero : RecordWritten → Bool
-zero a = eqb (recordWrittenReport a .number) 0
+zero a = eqb (report a .number) 0
 
 enum-told : tie.Need-enum-told
 enum-told c = search needs

@@ -6,7 +6,7 @@ use lib.ListN.{length}
 use Rattle.record_format.specs.Faults.{recordWriteReport}
 use Rattle.card.specs.Reports.{checkReport}
 use Rattle.card.proofs.Callers.{GoodCard, good}
-use Rattle.record_writer.specs.Reports.{recordWrittenReport}
+use Rattle.record_writer.specs.Reports.{report}
 use Rattle.record_writer.proofs.WriterAnswers.{good-report, good-output, bad-report, bad-output}
 use borrow.Author.Needs.{needs}
 use Rattle.record_writer.proofs.write.Statement.{statement}
@@ -46,7 +46,7 @@ returns-2 c =
     let s = d .before .before in
     let a = start s .args in
     let v = d .write-good in
-    let e : recordWrittenReport (v .result) ≡ recordWriteReport (now (a .card)) (a .l) (a .lost) (length (now (a .stripe))) (length (now (a .out))) =
+    let e : report (v .result) ≡ recordWriteReport (now (a .card)) (a .l) (a .lost) (length (now (a .stripe))) (length (now (a .out))) =
     v .ensures .0 ∙ sym (good-report _ _ _ _ _ _ _ (known s)) in
     (e, v .ensures .1 ∙ good-output _ _ _ _ _ _ _ (known s) _ e)
 

@@ -9,7 +9,7 @@ use Rattle.flat.proofs.Reports.{unless-zero, unless-other}
 use Rattle.flat.specs.Cards.{code, disks}
 use Rattle.flat.proofs.Lengths.{length-in}
 use Rattle.record_format.proofs.Written.{Recordable}
-use Rattle.record_writer.specs.Reports.{recordWrittenReport}
+use Rattle.record_writer.specs.Reports.{report}
 use Rattle.record_writer.proofs.WriterAnswers.{zero-passed, room-asked}
 use borrow.Author.Needs.{needs}
 use Rattle.record_writer.proofs.write_good.Statement.{statement}
@@ -29,7 +29,7 @@ known : (c : tie.Then1) →
     let a = start c .args in
     Recordable (code (a .k) (a .m) []) (a .l) (a .lost) (length (now (a .stripe))) (length (now (a .out)))
 known c =
-    zero-passed _ _ _ _ _ (recordWrittenReport (c .before .before .decide .result)) (c .before .before .decide .ensures)
+    zero-passed _ _ _ _ _ (report (c .before .before .decide .result)) (c .before .before .decide .ensures)
     (sym (c .before .accepts .ensures) ∙ c .if1 .taken)
 
 add-put-record : tie.Need-add-put-record
@@ -50,13 +50,13 @@ returns c =
     let d = c .before .before .before .before in (
       d .before .before .decide .ensures,
       c .before .before .put-record .ensures
-          ∙ unless-zero (recordWrittenReport (d .before .before .decide .result)) _ _ (sym (d .before .accepts .ensures) ∙ d .if1 .taken),
+          ∙ unless-zero (report (d .before .before .decide .result)) _ _ (sym (d .before .accepts .ensures) ∙ d .if1 .taken),
     )
 
 returns-2 : tie.Need-returns-2
 returns-2 c = (
   c .before .before .decide .ensures,
-  unless-other (recordWrittenReport (c .before .before .decide .result)) _ _ (sym (c .before .accepts .ensures) ∙ c .if1 .left),
+  unless-other (report (c .before .before .decide .result)) _ _ (sym (c .before .accepts .ensures) ∙ c .if1 .left),
 )
 
 pub write-good-spec : {M : Type 1} → statement M

@@ -9,7 +9,7 @@ use denote.Ref.{now}
 use lib.ListN.{length, take}
 use lib.Seq.{length-take-le}
 use Rattle.flat.specs.Faults.{accepted, erasuresReport}
-use Rattle.erasures.specs.Reports.{listedReport}
+use Rattle.erasures.specs.Reports.{report as listedReport}
 use Rattle.text.specs.Text.{listingText, refusedText}
 use Rattle.render.specs.Printed.{printed}
 use Rattle.render.proofs.Texts.{printed-fault, printed-short, printed-listing, counts, few, room, entries-are, vector-is}

@@ -6,7 +6,7 @@ use borrow.Author.Needs.{needs}
 use denote.Ref.{now}
 use Rattle.flat.specs.Faults.{accepted}
 use Rattle.record_format.specs.Faults.{recordReport}
-use Rattle.record_reader.specs.Reports.{recordFaultReport, recordCheckReport}
+use Rattle.record_reader.specs.Reports.{recordFaultReport, report as recordCheckReport}
 use Rattle.record_reader.proofs.Callers.{unless-bad}
 use Rattle.bounds.specs.Coded.{coded}
 use Rattle.bounds.proofs.RecordValues.{record-fits}

@@ -6,7 +6,7 @@ use Prim.Native.Nat.{ℕ}
 use native.Mathlib.Omega.{arith}
 use borrow.Author.Needs.{needs}
 use denote.Ref.{now}
-use Rattle.record_reader.specs.Reports.{recordCheckReport}
+use Rattle.record_reader.specs.Reports.{report as recordCheckReport}
 use Rattle.record_reader.proofs.Callers.{GoodRecord, good}
 use Rattle.record.proofs.Places.{no-disk, lost-disk, there, nowhere, bad-place}
 use Rattle.record.proofs.bodies.body_place.Statement.{statement}
