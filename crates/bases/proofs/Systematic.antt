@@ -14,8 +14,8 @@ use Rattle.flat.specs.Cards.{Code, disks}
 use Rattle.flat.specs.Spans.{row, rows, check, checks}
 use Rattle.flat.proofs.Lists.{length-tabulate, getD-tabulate}
 use Rattle.flat.proofs.Rows.{row-lt, row-data, check-lt, check-parity}
-use Rattle.words.specs.Systematic.{Systematic}
-use Rattle.words.specs.Listed.{Listable}
+use Rattle.minimal_words.specs.Systematic.{Systematic}
+use Rattle.minimal_words.specs.Listed.{Listable}
 
 -- a table of which entry j has disk p i where j is i, and else not
 table-systematic : (n c : ℕ) (f p : ℕ → ℕ) → ((j i : ℕ) → i < c → bit (f j) (p i) ≡ (if eqb i j then 1 else 0)) → ((j : ℕ) → f j < 2 ^ n)

@@ -6,8 +6,8 @@ use Prim.Native.Nat.{ℕ, _%_}
 use borrow.Author.Tests.{ne-eqb}
 use Rattle.flat.specs.Faults.{Report, accepted, unlessRefused}
 use Rattle.flat.proofs.Reports.{unless-accepted, unless-number, unless-other}
-use Rattle.bounds.specs.Coded.{coded, codedFault, Fits}
-use Rattle.bounds.proofs.Theorems.{coded-decodes}
+use Rattle.export_bounds.specs.Coded.{coded, codedFault, Fits}
+use Rattle.export_bounds.proofs.Theorems.{coded-decodes}
 
 -- the low 8 bits of the one number say which it is
 module _ (r : Report) (fits : Fits r) (code : ℕ) (e : code ≡ coded r) {A : Type 0} (new old : A) where

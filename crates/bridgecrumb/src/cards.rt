@@ -3,11 +3,11 @@ ghost use mathlib.Core.Path.{_≡_};
 ghost use lib.ListN.{length};
 ghost use Rattle.flat.specs.Cards.{code};
 ghost use Rattle.flat.specs.Faults.{unlessRefused, cardReport, cardColumns, cardWriteReport, cardWriteBuffer, alikeReport};
-ghost use Rattle.bounds.specs.Coded.{coded, codedFault};
+ghost use Rattle.export_bounds.specs.Coded.{coded, codedFault};
 use card::CardCheck;
-use codes::fault_code;
-use codes::likeness_code;
-use codes::written_code;
+use export_codes::fault_code;
+use export_codes::likeness_code;
+use export_codes::written_code;
 
 // The card reader: k and m, and the columns, then zeros. A refused call writes nothing.
 #[no_mangle]

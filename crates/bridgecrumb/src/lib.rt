@@ -8,12 +8,12 @@
 ghost use mathlib.Core.Path.{_≡_};
 ghost use lib.ListN.{length};
 ghost use Rattle.flat.specs.Faults.{unlessRefused, encodeReport, encodeStripe, verdictReport, erasuresReport, erasuresVector, erasuresSlice, equationsReport, equationsSlice, rebuildReport, rebuildStripe};
-ghost use Rattle.bounds.specs.Coded.{coded};
-use codes::encoded_code;
-use codes::listed_code;
-use codes::rebuilt_code;
-use codes::told_code;
-use codes::verdict_code;
+ghost use Rattle.export_bounds.specs.Coded.{coded};
+use export_codes::encoded_code;
+use export_codes::listed_code;
+use export_codes::rebuilt_code;
+use export_codes::told_code;
+use export_codes::verdict_code;
 
 mod cards;
 mod records;

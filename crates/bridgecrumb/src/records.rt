@@ -6,11 +6,11 @@ ghost use lib.ListN.{length};
 ghost use Rattle.record_format.specs.Records.{offsetIn, bodyLengthIn};
 ghost use Rattle.flat.specs.Faults.{unlessRefused};
 ghost use Rattle.record_format.specs.Faults.{recordWriteReport, recordWriteOutput, recordReport, recordColumns, bodyReport};
-ghost use Rattle.bounds.specs.Coded.{coded, codedFault};
+ghost use Rattle.export_bounds.specs.Coded.{coded, codedFault};
+use export_codes::record_fault_code;
+use export_codes::record_written_code;
+use export_codes::there_code;
 use record::RecordCheck;
-use record_codes::record_fault_code;
-use record_codes::record_written_code;
-use record_codes::there_code;
 
 // The record writer: the record of the stripe at the output's front. A refused call writes nothing.
 #[no_mangle]

@@ -22,11 +22,11 @@ use Rattle.flat.proofs.Rows.{checks-length}
 use Rattle.flat.proofs.CheckWords.{less-lt}
 use Rattle.flat.proofs.Members.{In, map-out}
 use Rattle.flat.proofs.EquationsListed.{equations-enumerated}
-use Rattle.words.specs.Listed.{kept, entry, keptFrom, entries, sizes, listed}
+use Rattle.minimal_words.specs.Listed.{kept, entry, keptFrom, entries, sizes, listed}
 use Rattle.flat.proofs.Filters.{filter-cong, filter-both}
 use Rattle.flat.proofs.Blocks.{ordered-same}
-use Rattle.marks.proofs.Keys.{listed-sizes}
-use Rattle.marks.proofs.Entries.{entries-small}
+use Rattle.minimal_marks.proofs.Keys.{listed-sizes}
+use Rattle.minimal_marks.proofs.Entries.{entries-small}
 use Rattle.bases.proofs.Systematic.{checks-systematic}
 
 module _ (C : Code) (d : ℕ) where

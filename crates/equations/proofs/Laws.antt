@@ -13,7 +13,7 @@ use Rattle.flat.specs.Equations.{equations}
 use Rattle.flat.specs.Faults.{Report, refused, unlessRefused, cardReport, listReport, listSlice, equationsTests, equationsReport, equationsSlice}
 use Rattle.flat.specs.Spans.{checks}
 use Rattle.flat.proofs.Reports.{unless-refused}
-use Rattle.words.specs.Listed.{Listable}
+use Rattle.minimal_words.specs.Listed.{Listable}
 use Rattle.bases.proofs.Systematic.{checks-systematic, listable}
 use Rattle.card.specs.declared.CardFault.{CardFault}
 use Rattle.card.specs.declared.CardCheck.the-variants.{Bad}

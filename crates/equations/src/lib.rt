@@ -13,7 +13,7 @@ ghost use Rattle.card.specs.Columns.{Columns};
 ghost use Rattle.equations.specs.Reports.{report};
 use card::CardCheck;
 use card::CardFault;
-use marks::KEYS;
+use minimal_marks::KEYS;
 
 // The equation call's answer: the count, the card's fault, a disk that the code lacks, or the count
 // needed where the slice is shorter.
@@ -34,12 +34,12 @@ fn list_columns(columns: &[u8], k: usize, m: usize, disk: usize, out: &mut [u32]
     let basis = bases::checks(columns, k, m);
     let set = 1u32 << disk;
     let mut marks = [0u64; 1024];
-    let places = lists::starts(marks::mark(basis, k + m, set, 0, &mut marks));
+    let places = minimal_lists::starts(minimal_marks::mark(basis, k + m, set, 0, &mut marks));
     let count = places[KEYS];
     if out.len() < count {
         return Told::Short(count);
     }
-    lists::fill(basis, set, 0, &marks, places, out);
+    minimal_lists::fill(basis, set, 0, &marks, places, out);
     Told::Count(count)
 }
 

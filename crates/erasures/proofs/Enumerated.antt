@@ -22,11 +22,11 @@ use Rattle.flat.proofs.Fatal.{word-below}
 use Rattle.flat.proofs.Least.{selectors-out}
 use Rattle.flat.proofs.Members.{In, map-out}
 use Rattle.flat.proofs.ErasuresListed.{erasures-enumerated}
-use Rattle.words.specs.Listed.{kept, entry, keptFrom, entries, sizes, listed, tally}
+use Rattle.minimal_words.specs.Listed.{kept, entry, keptFrom, entries, sizes, listed, tally}
 use Rattle.flat.proofs.Filters.{filter-cong, map-cong}
 use Rattle.flat.proofs.Blocks.{ordered-same, ordered-count}
-use Rattle.marks.proofs.Keys.{listed-sizes, tally-sizes}
-use Rattle.marks.proofs.Entries.{kept-inside, entries-small}
+use Rattle.minimal_marks.proofs.Keys.{listed-sizes, tally-sizes}
+use Rattle.minimal_marks.proofs.Entries.{kept-inside, entries-small}
 use Rattle.bases.proofs.Systematic.{rows-systematic}
 
 module _ (C : Code) where

@@ -7,7 +7,7 @@ use native.Mathlib.Omega.{arith}
 use lib.ListN.{take}
 use Rattle.flat.specs.Cards.{code, disks}
 use Rattle.flat.specs.Spans.{rows}
-use Rattle.words.specs.Listed.{Listable}
+use Rattle.minimal_words.specs.Listed.{Listable}
 use Rattle.bases.proofs.Systematic.{rows-systematic, taken, listable}
 
 module _ (k m count : ℕ) (bs out : List ℕ) where

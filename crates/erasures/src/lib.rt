@@ -11,12 +11,12 @@ ghost use Rattle.flat.specs.Cards.{codeIn};
 ghost use Rattle.flat.specs.Erasures.{erasures, vector};
 ghost use Rattle.flat.specs.Faults.{unlessRefused, listReport, listSlice, erasuresReport, erasuresVector, erasuresSlice};
 ghost use Rattle.card.specs.Columns.{Columns};
-ghost use Rattle.words.specs.Listed.{sizes};
+ghost use Rattle.minimal_words.specs.Listed.{sizes};
 ghost use Rattle.erasures.specs.Reports.{report};
 use card::CardCheck;
 use card::CardFault;
-use marks::KEYS;
-use marks::SIZES;
+use minimal_marks::KEYS;
+use minimal_marks::SIZES;
 
 // The lister's answer: the count, the card's fault, or the count needed where the slice is shorter.
 pub enum Listed {
@@ -53,8 +53,8 @@ fn list_columns(columns: &[u8], k: usize, m: usize, out: &mut [u32]) -> Listing
 {
     let basis = bases::rows(columns, k, m);
     let mut marks = [0u64; 1024];
-    let counts = marks::mark(basis, k + m, 0, 0, &mut marks);
-    let places = lists::starts(counts);
+    let counts = minimal_marks::mark(basis, k + m, 0, 0, &mut marks);
+    let places = minimal_lists::starts(counts);
     let count = places[KEYS];
     if out.len() < count {
         return Listing {
@@ -62,7 +62,7 @@ fn list_columns(columns: &[u8], k: usize, m: usize, out: &mut [u32]) -> Listing
             vector: [0usize; 17],
         };
     }
-    lists::fill(basis, 0, 0, &marks, places, out);
+    minimal_lists::fill(basis, 0, 0, &marks, places, out);
     Listing {
         answer: Listed::Count(count),
         vector: vector(counts, m),
@@ -91,5 +91,5 @@ pub fn count_columns(columns: &[u8], k: usize, m: usize) -> [usize; 17]
 {
     let basis = bases::rows(columns, k, m);
     let mut marks = [0u64; 1024];
-    vector(marks::mark(basis, k + m, 0, 0, &mut marks), m)
+    vector(minimal_marks::mark(basis, k + m, 0, 0, &mut marks), m)
 }

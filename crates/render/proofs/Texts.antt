@@ -18,7 +18,7 @@ use Rattle.card.specs.Reports.{faultReport}
 use Rattle.card.proofs.Laws.{unless-fault}
 use Rattle.card.proofs.Callers.{GoodCard, good}
 use Rattle.erasures.proofs.Enumerated.{vector-length}
-use Rattle.bounds.proofs.ListLengths.{erasures-few}
+use Rattle.export_bounds.proofs.ListLengths.{erasures-few}
 use Rattle.text.specs.Text.{listingText, refusedText}
 use Rattle.render.specs.Printed.{printed}
 

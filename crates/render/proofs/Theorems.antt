@@ -24,8 +24,8 @@ use Rattle.flat.proofs.Cards.{accepted-card, card-accepted, count-in}
 use Rattle.flat.proofs.ErasuresListed.{erasures-out}
 use Rattle.flat.proofs.Filters.{filter-length}
 use Rattle.erasures.proofs.Enumerated.{vector-length}
-use Rattle.bounds.proofs.ListLengths.{erasures-few}
-use Rattle.bounds.proofs.Values.{erasures-fits}
+use Rattle.export_bounds.proofs.ListLengths.{erasures-few}
+use Rattle.export_bounds.proofs.Values.{erasures-fits}
 use Rattle.text.specs.Decimal.{decimal}
 use Rattle.text.proofs.Digits.{length-most}
 use Rattle.text.proofs.Pieces.{each-most}

@@ -1,8 +1,8 @@
 -- `bridgecrumb::bridgecrumb_equations` meets its contract. Assumes nothing.
 use mathlib.Core.Path.{ap, _∙_}
 use borrow.Author.Needs.{needs}
-use Rattle.bounds.specs.Coded.{coded}
-use Rattle.bounds.proofs.Values.{equations-fits}
+use Rattle.export_bounds.specs.Coded.{coded}
+use Rattle.export_bounds.proofs.Values.{equations-fits}
 use Rattle.bridgecrumb.proofs.bridgecrumb_equations.Statement.{statement}
 use Rattle.bridgecrumb.proofs.bridgecrumb_equations.Tie as tie
 

@@ -4,8 +4,8 @@ use borrow.Author.Needs.{needs}
 use denote.Ref.{now}
 use lib.ListN.{length}
 use Rattle.flat.specs.Faults.{erasuresReport}
-use Rattle.bounds.specs.Coded.{coded}
-use Rattle.bounds.proofs.Values.{erasures-fits}
+use Rattle.export_bounds.specs.Coded.{coded}
+use Rattle.export_bounds.proofs.Values.{erasures-fits}
 use Rattle.bridgecrumb.proofs.Arrays.{written, kept}
 use Rattle.bridgecrumb.proofs.bridgecrumb_list.Statement.{statement}
 use Rattle.bridgecrumb.proofs.bridgecrumb_list.Tie as tie

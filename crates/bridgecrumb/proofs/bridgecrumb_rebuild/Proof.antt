@@ -1,8 +1,8 @@
 -- `bridgecrumb::bridgecrumb_rebuild` meets its contract. Assumes nothing.
 use mathlib.Core.Path.{ap, _∙_}
 use borrow.Author.Needs.{needs}
-use Rattle.bounds.specs.Coded.{coded}
-use Rattle.bounds.proofs.Values.{rebuild-fits}
+use Rattle.export_bounds.specs.Coded.{coded}
+use Rattle.export_bounds.proofs.Values.{rebuild-fits}
 use Rattle.bridgecrumb.proofs.bridgecrumb_rebuild.Statement.{statement}
 use Rattle.bridgecrumb.proofs.bridgecrumb_rebuild.Tie as tie
 

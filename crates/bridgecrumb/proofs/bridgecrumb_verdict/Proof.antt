@@ -1,8 +1,8 @@
 -- `bridgecrumb::bridgecrumb_verdict` meets its contract. Assumes nothing.
 use mathlib.Core.Path.{ap, _∙_}
 use borrow.Author.Needs.{needs}
-use Rattle.bounds.specs.Coded.{coded}
-use Rattle.bounds.proofs.Values.{verdict-fits}
+use Rattle.export_bounds.specs.Coded.{coded}
+use Rattle.export_bounds.proofs.Values.{verdict-fits}
 use Rattle.bridgecrumb.proofs.bridgecrumb_verdict.Statement.{statement}
 use Rattle.bridgecrumb.proofs.bridgecrumb_verdict.Tie as tie
 

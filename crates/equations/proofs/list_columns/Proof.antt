@@ -14,10 +14,10 @@ use Rattle.flat.specs.Faults.{unlessRefused, listSlice}
 use Rattle.flat.specs.Spans.{checks}
 use Rattle.flat.proofs.Rows.{checks-length}
 use Rattle.flat.proofs.Reports.{list-short, list-fits}
-use Rattle.words.specs.Listed.{keys, listed, starts}
-use Rattle.marks.specs.Marks.{noMarks}
-use Rattle.marks.proofs.Passes.{tally-small}
-use Rattle.lists.proofs.Filling.{starts-last}
+use Rattle.minimal_words.specs.Listed.{keys, listed, starts}
+use Rattle.minimal_marks.specs.Marks.{noMarks}
+use Rattle.minimal_marks.proofs.Passes.{tally-small}
+use Rattle.minimal_lists.proofs.Filling.{starts-last}
 use Rattle.bases.proofs.Systematic.{taken}
 use Rattle.equations.proofs.Enumerated.{listed-equations}
 use Rattle.equations.proofs.Laws.{checks-listable}

@@ -9,8 +9,8 @@ use lib.ListN.{getD}
 use Rattle.flat.specs.Lists.{padded, tabulate}
 use Rattle.flat.specs.Cards.{codeIn}
 use Rattle.flat.specs.Spans.{rows}
-use Rattle.words.specs.Listed.{sizes, tally}
-use Rattle.marks.specs.Marks.{noMarks}
+use Rattle.minimal_words.specs.Listed.{sizes, tally}
+use Rattle.minimal_marks.specs.Marks.{noMarks}
 use Rattle.erasures.proofs.Enumerated.{vector-tally}
 use Rattle.erasures.proofs.Laws.{taken-rows, rows-listable}
 use Rattle.erasures.proofs.count_columns.Statement.{statement}

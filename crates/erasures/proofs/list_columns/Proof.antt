@@ -14,10 +14,10 @@ use Rattle.flat.specs.Faults.{unlessRefused, listSlice}
 use Rattle.flat.specs.Spans.{rows}
 use Rattle.flat.proofs.Rows.{rows-length}
 use Rattle.flat.proofs.Reports.{list-short, list-fits}
-use Rattle.words.specs.Listed.{sizes, keys, listed, tally, starts}
-use Rattle.marks.specs.Marks.{noMarks}
-use Rattle.marks.proofs.Passes.{tally-small}
-use Rattle.lists.proofs.Filling.{starts-last}
+use Rattle.minimal_words.specs.Listed.{sizes, keys, listed, tally, starts}
+use Rattle.minimal_marks.specs.Marks.{noMarks}
+use Rattle.minimal_marks.proofs.Passes.{tally-small}
+use Rattle.minimal_lists.proofs.Filling.{starts-last}
 use Rattle.erasures.proofs.Enumerated.{listed-erasures, vector-tally}
 use Rattle.erasures.proofs.Laws.{taken-rows, rows-listable}
 use Rattle.erasures.proofs.list_columns.Statement.{statement}

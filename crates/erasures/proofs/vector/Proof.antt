@@ -7,7 +7,7 @@ use borrow.Author.Needs.{needs}
 use lib.ListN.{length, getD}
 use Rattle.flat.specs.Lists.{padded, tabulate}
 use Rattle.flat.proofs.Lists.{fill-none, fill-more}
-use Rattle.words.specs.Listed.{sizes, keys}
+use Rattle.minimal_words.specs.Listed.{sizes, keys}
 use Rattle.erasures.proofs.vector.Statement.{statement}
 use Rattle.erasures.proofs.vector.Tie as tie
 

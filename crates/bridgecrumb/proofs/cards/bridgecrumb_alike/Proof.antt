@@ -1,8 +1,8 @@
 -- `bridgecrumb::cards::bridgecrumb_alike` meets its contract. Assumes nothing.
 use mathlib.Core.Path.{ap, _∙_}
 use borrow.Author.Needs.{needs}
-use Rattle.bounds.specs.Coded.{coded}
-use Rattle.bounds.proofs.Values.{alike-fits}
+use Rattle.export_bounds.specs.Coded.{coded}
+use Rattle.export_bounds.proofs.Values.{alike-fits}
 use Rattle.bridgecrumb.proofs.cards.bridgecrumb_alike.Statement.{statement}
 use Rattle.bridgecrumb.proofs.cards.bridgecrumb_alike.Tie as tie
 

@@ -7,8 +7,8 @@ use denote.Ref.{now}
 use Rattle.flat.specs.Faults.{accepted, cardReport}
 use Rattle.card.specs.Reports.{faultReport, checkReport}
 use Rattle.card.proofs.Laws.{unless-fault}
-use Rattle.bounds.specs.Coded.{coded}
-use Rattle.bounds.proofs.Values.{card-fits}
+use Rattle.export_bounds.specs.Coded.{coded}
+use Rattle.export_bounds.proofs.Values.{card-fits}
 use Rattle.bridgecrumb.proofs.Arrays.{read, unread}
 use Rattle.bridgecrumb.proofs.cards.bridgecrumb_card_read.Statement.{statement}
 use Rattle.bridgecrumb.proofs.cards.bridgecrumb_card_read.Tie as tie

@@ -1,8 +1,8 @@
 -- `bridgecrumb::cards::bridgecrumb_card_write` meets its contract. Assumes nothing.
 use mathlib.Core.Path.{ap, _∙_}
 use borrow.Author.Needs.{needs}
-use Rattle.bounds.specs.Coded.{coded}
-use Rattle.bounds.proofs.Values.{card-write-fits}
+use Rattle.export_bounds.specs.Coded.{coded}
+use Rattle.export_bounds.proofs.Values.{card-write-fits}
 use Rattle.bridgecrumb.proofs.cards.bridgecrumb_card_write.Statement.{statement}
 use Rattle.bridgecrumb.proofs.cards.bridgecrumb_card_write.Tie as tie
 

@@ -6,8 +6,8 @@ use Prim.Native.Nat.{ℕ}
 use borrow.Author.Needs.{needs}
 use denote.Ref.{now}
 use Rattle.record_format.specs.Faults.{bodyReport}
-use Rattle.bounds.specs.Coded.{coded}
-use Rattle.bounds.proofs.RecordValues.{body-fits}
+use Rattle.export_bounds.specs.Coded.{coded}
+use Rattle.export_bounds.proofs.RecordValues.{body-fits}
 use Rattle.bridgecrumb.proofs.Arrays.{written, kept}
 use Rattle.bridgecrumb.proofs.records.bridgecrumb_record_body.Statement.{statement}
 use Rattle.bridgecrumb.proofs.records.bridgecrumb_record_body.Tie as tie

@@ -8,8 +8,8 @@ use Rattle.flat.specs.Faults.{accepted}
 use Rattle.record_format.specs.Faults.{recordReport}
 use Rattle.record_reader.specs.Reports.{recordFaultReport, report as recordCheckReport}
 use Rattle.record_reader.proofs.Callers.{unless-bad}
-use Rattle.bounds.specs.Coded.{coded}
-use Rattle.bounds.proofs.RecordValues.{record-fits}
+use Rattle.export_bounds.specs.Coded.{coded}
+use Rattle.export_bounds.proofs.RecordValues.{record-fits}
 use Rattle.bridgecrumb.proofs.Arrays.{read, unread}
 use Rattle.bridgecrumb.proofs.records.bridgecrumb_record_read.Statement.{statement}
 use Rattle.bridgecrumb.proofs.records.bridgecrumb_record_read.Tie as tie

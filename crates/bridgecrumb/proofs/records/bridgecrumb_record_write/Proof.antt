@@ -1,8 +1,8 @@
 -- `bridgecrumb::records::bridgecrumb_record_write` meets its contract. Assumes nothing.
 use mathlib.Core.Path.{ap, _∙_}
 use borrow.Author.Needs.{needs}
-use Rattle.bounds.specs.Coded.{coded}
-use Rattle.bounds.proofs.RecordValues.{record-write-fits}
+use Rattle.export_bounds.specs.Coded.{coded}
+use Rattle.export_bounds.proofs.RecordValues.{record-write-fits}
 use Rattle.bridgecrumb.proofs.records.bridgecrumb_record_write.Statement.{statement}
 use Rattle.bridgecrumb.proofs.records.bridgecrumb_record_write.Tie as tie
 

@@ -1,0 +1,43 @@
+-- What a caller in C may rely on, in plain words above each statement. The proofs are those of proofs/Theorems.antt.
+-- Assumes nothing.
+use mathlib.Core.Path.{_≡_}
+use mathlib.Core.List.{List}
+use Prim.Native.Nat.{ℕ, _-_, _/_, _%_, _^_, _≤_, _<_}
+use lib.ListN.{length}
+use Rattle.flat.specs.Cards.{Code, disks}
+use Rattle.flat.specs.Erasures.{erasures}
+use Rattle.flat.specs.Equations.{equations}
+use Rattle.flat.specs.Faults.{Report, unlessRefused, cardReport, cardWriteReport, encodeReport, verdictReport, erasuresReport, alikeReport, equationsReport, rebuildReport}
+use Rattle.record_format.specs.Faults.{recordWriteReport, recordReport, bodyReport}
+use Rattle.export_bounds.specs.Coded.{value, coded, codedFault, Fits}
+
+-- The one number tells both: its low 8 bits are the report's number, and the rest is the value.
+abbrev pub CodedDecodes : Type 0
+CodedDecodes = (r : Report) → r .number < 256 → (coded r % 256 ≡ r .number) × (coded r / 256 ≡ value r)
+
+-- So it is where the values of an accepted call go into arrays, and its one number is 0.
+abbrev pub FaultDecodes : Type 0
+FaultDecodes =
+    (r : Report) → r .number < 256 → (codedFault r % 256 ≡ r .number) × (codedFault r / 256 ≡ unlessRefused r 0 (value r))
+
+-- Every report of every call fits: its number has 8 bits and its value 32, so both fit into 64 together.
+pub record ReportsFit : Type 0 where
+  pub card-check : (card : List ℕ) → Fits (cardReport card)
+  pub card-writer : (C : Code) (n : ℕ) → Fits (cardWriteReport C n)
+  pub encoder : (card : List ℕ) (L n : ℕ) → Fits (encodeReport card L n)
+  pub verdict : (card : List ℕ) (S : ℕ) → Fits (verdictReport card S)
+  pub lister : (card : List ℕ) (n : ℕ) → Fits (erasuresReport card n)
+  pub likeness : (first second : List ℕ) → Fits (alikeReport first second)
+  pub equation-call : (card : List ℕ) (d n : ℕ) → Fits (equationsReport card d n)
+  pub rebuilder : (card : List ℕ) (L S : ℕ) (stripe : List ℕ) → Fits (rebuildReport card L S stripe)
+  pub record-writer : (card : List ℕ) (L S n p : ℕ) → Fits (recordWriteReport card L S n p)
+  pub record-reader : (file : List ℕ) → Fits (recordReport file)
+  pub body-call : (file : List ℕ) (d : ℕ) → Fits (bodyReport file d)
+
+-- The minimal erasures are fewer than the data words.
+abbrev pub ErasuresFew : Type 0
+ErasuresFew = (C : Code) → length (erasures C) ≤ 2 ^ C .k - 1
+
+-- The equations of a disk are fewer than the sets of parity disks.
+abbrev pub EquationsFew : Type 0
+EquationsFew = (C : Code) (d : ℕ) → d < disks C → length (equations C d) ≤ 2 ^ C .m - 1

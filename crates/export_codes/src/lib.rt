@@ -1,0 +1,138 @@
+// The answers of the calls as one number each, for a caller in C: the report's number, 0 where the call is
+// accepted, and 256 times the value that the report names, if it names one. Here stand those of the calls
+// on cards, sets and stripes, in module records those of the calls on record files.
+//
+// Every function assumes that the report fits: its value is below 2 ^ 32, so that both fit into 64 bits.
+ghost use mathlib.Core.Path.{_≡_};
+ghost use mathlib.Core.List.{[], _∷_};
+ghost use Rattle.flat.specs.Faults.{refused};
+ghost use Rattle.card.specs.Reports.{faultReport};
+ghost use Rattle.card_writer.specs.Reports.{report as writtenReport};
+ghost use Rattle.verdicts.specs.Reports.{report as verdictReport};
+ghost use Rattle.likeness.specs.Reports.{report as alikeReport};
+ghost use Rattle.erasures.specs.Reports.{report as listedReport};
+ghost use Rattle.equations.specs.Reports.{report as toldReport};
+ghost use Rattle.encoder.specs.Reports.{report as encodedReport};
+ghost use Rattle.rebuilder.specs.Reports.{report as rebuiltReport};
+ghost use Rattle.export_bounds.specs.Coded.{coded, Fits};
+use card::CardFault;
+use card_writer::CardWritten;
+use encoder::Encoded;
+use equations::Told;
+use erasures::Listed;
+use likeness::Likeness;
+use rebuilder::Rebuilt;
+use verdicts::SetVerdict;
+
+mod records;
+
+pub use records::record_fault_code;
+pub use records::record_written_code;
+pub use records::there_code;
+
+// A report's number and its value packed into one.
+pub fn packed(number: u64, value: usize) -> u64
+    requires { ⌜ Fits (refused number (value ∷ [])) ⌝ }
+    ensures { λ r. ⌜ r ≡ coded (refused number (value ∷ [])) ⌝ }
+{
+    number + 256 * (value as u64)
+}
+
+// A card's fault.
+pub fn fault_code(fault: CardFault) -> u64
+    requires { ⌜ Fits (faultReport fault) ⌝ }
+    ensures { λ r. ⌜ r ≡ coded (faultReport fault) ⌝ }
+{
+    packed(card::number(fault) as u64, card::value(fault))
+}
+
+// The card writer's answer.
+pub fn written_code(written: CardWritten) -> u64
+    requires { ⌜ Fits (writtenReport written) ⌝ }
+    ensures { λ r. ⌜ r ≡ coded (writtenReport written) ⌝ }
+{
+    match written {
+        CardWritten::Done => 0,
+        CardWritten::Refused(fault) => fault_code(fault),
+        CardWritten::Buffer => 7,
+    }
+}
+
+// The encoder's answer.
+pub fn encoded_code(encoded: Encoded) -> u64
+    requires { ⌜ Fits (encodedReport encoded) ⌝ }
+    ensures { λ r. ⌜ r ≡ coded (encodedReport encoded) ⌝ }
+{
+    match encoded {
+        Encoded::Done => 0,
+        Encoded::Card(fault) => fault_code(fault),
+        Encoded::StripLength => 6,
+        Encoded::StripeLength => 7,
+    }
+}
+
+// The verdict call's answer.
+pub fn verdict_code(verdict: SetVerdict) -> u64
+    requires { ⌜ Fits (verdictReport verdict) ⌝ }
+    ensures { λ r. ⌜ r ≡ coded (verdictReport verdict) ⌝ }
+{
+    match verdict {
+        SetVerdict::Fatal => packed(0, 1),
+        SetVerdict::Recoverable => packed(0, 0),
+        SetVerdict::Card(fault) => fault_code(fault),
+        SetVerdict::OutsideSet => 8,
+    }
+}
+
+// The answer to whether two cards are alike.
+pub fn likeness_code(likeness: Likeness) -> u64
+    requires { ⌜ Fits (alikeReport likeness) ⌝ }
+    ensures { λ r. ⌜ r ≡ coded (alikeReport likeness) ⌝ }
+{
+    match likeness {
+        Likeness::Alike => packed(0, 1),
+        Likeness::Different => packed(0, 0),
+        Likeness::Card(fault) => fault_code(fault),
+    }
+}
+
+// The lister's answer.
+pub fn listed_code(listed: Listed) -> u64
+    requires { ⌜ Fits (listedReport listed) ⌝ }
+    ensures { λ r. ⌜ r ≡ coded (listedReport listed) ⌝ }
+{
+    match listed {
+        Listed::Count(count) => packed(0, count),
+        Listed::Card(fault) => fault_code(fault),
+        Listed::Short(count) => packed(10, count),
+    }
+}
+
+// The equation call's answer.
+pub fn told_code(told: Told) -> u64
+    requires { ⌜ Fits (toldReport told) ⌝ }
+    ensures { λ r. ⌜ r ≡ coded (toldReport told) ⌝ }
+{
+    match told {
+        Told::Count(count) => packed(0, count),
+        Told::Card(fault) => fault_code(fault),
+        Told::NoDisk => 9,
+        Told::Short(count) => packed(10, count),
+    }
+}
+
+// The rebuilder's answer.
+pub fn rebuilt_code(rebuilt: Rebuilt) -> u64
+    requires { ⌜ Fits (rebuiltReport rebuilt) ⌝ }
+    ensures { λ r. ⌜ r ≡ coded (rebuiltReport rebuilt) ⌝ }
+{
+    match rebuilt {
+        Rebuilt::Disks(count) => packed(0, count as usize),
+        Rebuilt::Card(fault) => fault_code(fault),
+        Rebuilt::StripLength => 6,
+        Rebuilt::OutsideSet => 8,
+        Rebuilt::StripeLength => 7,
+        Rebuilt::Fatal => 11,
+        Rebuilt::Inconsistent => 12,
+    }
+}
