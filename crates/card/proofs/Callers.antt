@@ -3,7 +3,7 @@
 -- Assumes nothing.
 use mathlib.Core.Path.{_≡_, sym, ap, _∙_, subst}
 use mathlib.Core.List.{List, [], _∷_}
-use Prim.Native.Nat.{ℕ, _+_, _*_, _^_, _<_}
+use Prim.Native.Nat.{ℕ, _+_, _*_, _^_, _≤_, _<_}
 use native.Mathlib.Omega.{arith}
 use lib.ListN.{length, length-drop}
 use Rattle.flat.specs.Lists.{field}
@@ -21,6 +21,8 @@ use Rattle.card.proofs.Laws.{unless-fault}
 -- a card that the check found good
 pub record GoodCard (card : List ℕ) (k m : ℕ) : Type 0 where
   pub size : length card ≡ 2 + 2 * m
+  -- what `card::columns` requires, and what holds of the part that it hands back
+  pub long : 2 ≤ length card
   pub columns : Columns k m (columnBytes card)
   pub found : cardReport card ≡ accepted (k ∷ m ∷ [])
   pub is : codeOf card ≡ codeIn k m (columnBytes card)
@@ -34,6 +36,7 @@ good card k m e =
     let n : length (columnsIn m bs) ≡ m = length-columns m bs in
     record {
       size = a .size;
+      long = omega (arith, a .size);
       columns = (
         count-in k (s .k-ok) .0,
         count-in k (s .k-ok) .1,

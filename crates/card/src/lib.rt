@@ -1,7 +1,7 @@
 // Cards: the bytes that describe a code, k, m, then m columns of two bytes, low byte first. The check
-// that every call makes of a card, the card reader, one column out of the bytes, the tests of counts
-// and columns that the card writer shares, and the test of a strip length, which goes with a card in
-// every call that takes strips.
+// that every call makes of a card, its faults with their numbers, the part that the columns stand in, the
+// card reader, one column out of the bytes, the tests of counts and columns that the card writer shares,
+// and the test of a strip length, which goes with a card in every call that takes strips.
 //
 // Every byte string is a legal argument of `check` and `read`. What is answered for which input is said
 // in flat/specs/Faults.antt.

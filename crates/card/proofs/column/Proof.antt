@@ -1,10 +1,10 @@
 -- `card::column` meets its contract.
 -- Assumes nothing.
-use mathlib.Core.Path.{sym}
 use Prim.Native.Nat.{_+_, _*_}
 use native.Mathlib.Numerals.{add-one}
 use native.Mathlib.Omega.{arith}
 use borrow.Author.Needs.{needs}
+use denote.Ref.{now}
 use Rattle.flat.proofs.Lists.{field-two}
 use Rattle.card.proofs.column.Statement.{statement}
 use Rattle.card.proofs.column.Tie as tie
@@ -40,7 +40,8 @@ add-result c =
     omega (arith, byte at, byte (at + 1))
 
 returns : tie.Need-returns
-returns c = rw add-one (sym (field-two _ _))
+returns c =
+    let a = c .before .before .args in rw add-one (omega (arith, field-two (2 * a .j) (now (a .columns))))
 
 pub column-spec : {M : Type 1} → statement M
 column-spec =

@@ -35,7 +35,7 @@ known : (c : tie.After-known-told) → GoodCard (cardAt c) (c .before .check2 .g
 known c = good _ _ _ (found c)
 
 columns-requires : tie.Need-columns-requires
-columns-requires c κs = omega (arith, known c .size)
+columns-requires c κs = known c .long
 
 columns-of-requires : tie.Need-columns-of-requires
 columns-of-requires c κs =

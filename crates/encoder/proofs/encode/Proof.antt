@@ -60,7 +60,7 @@ returns-2 c =
     (e, stripe-kept _ _ _ _ _ e)
 
 columns-requires : tie.Need-columns-requires
-columns-requires c κs = omega (arith, known (c .before .before .before) .size)
+columns-requires c κs = known (c .before .before .before) .long
 
 encode-columns-requires : tie.Need-encode-columns-requires
 encode-columns-requires c κs =

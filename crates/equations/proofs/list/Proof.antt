@@ -35,7 +35,7 @@ returns : tie.Need-returns
 returns c = let g = known (c .before) in (outside-report _ _ _ _ g (c .if1 .taken) _, outside-slice _ _ _ _ g (c .if1 .taken) _)
 
 columns-requires : tie.Need-columns-requires
-columns-requires c κs = omega (arith, known (c .before) .size)
+columns-requires c κs = known (c .before) .long
 
 list-columns-requires : tie.Need-list-columns-requires
 list-columns-requires c κs =

@@ -3,7 +3,6 @@ use mathlib.Core.Path.{_≡_, sym, ap, ap₂, _∙_}
 use mathlib.Core.Bool.{true, false}
 use mathlib.Core.List.{List}
 use Prim.Native.Nat.{ℕ}
-use native.Mathlib.Omega.{arith}
 use denote.Ref.{now}
 use Rattle.flat.specs.Lists.{same, padded}
 use Rattle.flat.specs.Cards.{columnBytes, codeIn}
@@ -75,13 +74,13 @@ returns-2 c =
     (parity-differs _ _ _ _ (known (prior b)) _ _ (known2 b) (c .before .if1 .left) (c .if2 .taken))
 
 columns-requires : tie.Need-columns-requires
-columns-requires c κs = omega (arith, known (prior (c .before .before)) .size)
+columns-requires c κs = known (prior (c .before .before)) .long
 
 count-columns-requires : tie.Need-count-columns-requires
 count-columns-requires c κs = rw (c .columns .ensures) (known (prior (c .before .before .before)) .columns)
 
 columns-requires-2 : tie.Need-columns-requires-2
-columns-requires-2 c κs = omega (arith, known2 (c .before .before .before .before) .size)
+columns-requires-2 c κs = known2 (c .before .before .before .before) .long
 
 -- the second card is one of the first's counts
 count-columns-requires-2 : tie.Need-count-columns-requires-2

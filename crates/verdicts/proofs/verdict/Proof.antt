@@ -2,7 +2,6 @@
 use mathlib.Core.Path.{sym, ap, _∙_}
 use mathlib.Core.List.{List}
 use Prim.Native.Nat.{ℕ}
-use native.Mathlib.Omega.{arith}
 use borrow.Author.Needs.{needs}
 use denote.Ref.{now}
 use Rattle.card.specs.Reports.{checkReport}
@@ -28,7 +27,7 @@ known : (c : tie.After-known-told2) → GoodCard (cardAt c) (c .before .k .given
 known c = good _ _ _ (ap checkReport (sym (c .before .k .given .1)) ∙ c .before .before .before .check .ensures)
 
 columns-requires : tie.Need-columns-requires
-columns-requires c κs = omega (arith, known c .size)
+columns-requires c κs = known c .long
 
 verdict-columns-requires : tie.Need-verdict-columns-requires
 verdict-columns-requires c κs = rw (c .columns .ensures) (known (c .before) .columns)
