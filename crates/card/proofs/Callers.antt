@@ -15,7 +15,7 @@ use Rattle.flat.proofs.Cards.{accepted-card, count-in, column-in, none-bad, len
 use Rattle.card.specs.declared.CardFault.{CardFault}
 use Rattle.card.specs.declared.CardCheck.the-variants.{Good, Bad}
 use Rattle.card.specs.Columns.{Columns}
-use Rattle.card.specs.Reports.{faultReport, checkReport}
+use Rattle.card.specs.Reports.{faultReport, report}
 use Rattle.card.proofs.Laws.{unless-fault}
 
 -- a card that the check found good
@@ -27,7 +27,7 @@ pub record GoodCard (card : List ℕ) (k m : ℕ) : Type 0 where
   pub found : cardReport card ≡ accepted (k ∷ m ∷ [])
   pub is : codeOf card ≡ codeIn k m (columnBytes card)
 
-pub good : (card : List ℕ) (k m : ℕ) → checkReport (Good k m) ≡ cardReport card → GoodCard card k m
+pub good : (card : List ℕ) (k m : ℕ) → report (Good k m) ≡ cardReport card → GoodCard card k m
 unfolding cardLength columnsIn
 good card k m e =
     let a = accepted-card card k m (sym e) in
@@ -55,6 +55,6 @@ pub good-with : (card : List ℕ) (k m : ℕ) (answer : Code → Report) → Goo
     → withCard card answer ≡ answer (codeIn k m (columnBytes card))
 good-with card k m answer g = with-accepted card (k ∷ m ∷ []) answer (g .found) ∙ ap answer (g .is)
 
-pub bad-card : (card : List ℕ) (f : CardFault) (answer : Code → Report) → checkReport (Bad f) ≡ cardReport card → withCard card answer ≡ faultReport f
+pub bad-card : (card : List ℕ) (f : CardFault) (answer : Code → Report) → report (Bad f) ≡ cardReport card → withCard card answer ≡ faultReport f
 unfolding withCard
 bad-card card f answer e = unless-fault f (cardReport card) (answer (codeOf card)) (cardReport card) e ∙ sym e

@@ -9,7 +9,7 @@ use Rattle.flat.specs.Faults.{Report}
 use Rattle.card.specs.declared.CardFault.{CardFault}
 use Rattle.card.specs.declared.CardCheck.{CardCheck}
 use Rattle.card.specs.declared.CardCheck.the-variants.{Good, Bad}
-use Rattle.card.specs.Reports.{faultReport, checkReport}
+use Rattle.card.specs.Reports.{faultReport, report}
 use Rattle.card.specs.Theorems.{FaultInjective, CheckInjective}
 use Rattle.card.proofs.Laws.{faultOf, fault-back}
 
@@ -24,7 +24,7 @@ module _ {A : Type 0} where
 abbrev checkOf : Report → CardCheck
 checkOf r = carried r Bad (Good (getD (r .values) 0 0) (getD (r .values) 1 0))
 
-check-back : (r : CardCheck) → checkOf (checkReport r) ≡ r
+check-back : (r : CardCheck) → checkOf (report r) ≡ r
 check-back (Good k m) = refl
 check-back (Bad f) = carried-back f Bad _
 

@@ -16,6 +16,6 @@ faultReport Length = refused 4 []
 faultReport (Column j) = refused 5 (j ∷ [])
 
 -- the check, and the card reader
-abbrev pub checkReport : CardCheck → Report
-checkReport (Good k m) = accepted (k ∷ m ∷ [])
-checkReport (Bad f) = faultReport f
+abbrev pub report : CardCheck → Report
+report (Good k m) = accepted (k ∷ m ∷ [])
+report (Bad f) = faultReport f

@@ -4,10 +4,10 @@
 use mathlib.Core.Path.{_≡_}
 use Rattle.card.specs.declared.CardFault.{CardFault}
 use Rattle.card.specs.declared.CardCheck.{CardCheck}
-use Rattle.card.specs.Reports.{faultReport, checkReport}
+use Rattle.card.specs.Reports.{faultReport, report}
 
 abbrev pub FaultInjective : Type 0
 FaultInjective = (a b : CardFault) → faultReport a ≡ faultReport b → a ≡ b
 
 abbrev pub CheckInjective : Type 0
-CheckInjective = (a b : CardCheck) → checkReport a ≡ checkReport b → a ≡ b
+CheckInjective = (a b : CardCheck) → report a ≡ report b → a ≡ b

@@ -12,7 +12,7 @@ ghost use Rattle.flat.specs.Lists.{padded, field};
 ghost use Rattle.flat.specs.Cards.{countOk, columnOk, firstBad, columnBytes, columnsIn};
 ghost use Rattle.flat.specs.Strips.{lengthOk};
 ghost use Rattle.flat.specs.Faults.{cardReport, cardColumns};
-ghost use Rattle.card.specs.Reports.{faultReport, checkReport};
+ghost use Rattle.card.specs.Reports.{faultReport, report};
 
 // A fault of whoever wrote the card. Column names the first column that is 0 or has a bit at k or above.
 pub enum CardFault {
@@ -141,7 +141,7 @@ fn columns_of(m: usize, columns: &[u8]) -> [u16; 16]
 
 // Whether the bytes are a card, and of how many disks.
 pub fn check(card: &[u8]) -> CardCheck
-    ensures { λ r. ⌜ checkReport r ≡ cardReport (now (card .entry)) ⌝ }
+    ensures { λ r. ⌜ report r ≡ cardReport (now (card .entry)) ⌝ }
 {
     if card.len() < 2 {
         return CardCheck::Bad(CardFault::Short);
@@ -167,7 +167,7 @@ pub fn check(card: &[u8]) -> CardCheck
 
 // The card reader: k, m and the columns.
 pub fn read(card: &[u8]) -> CardRead
-    ensures { λ r. ⌜ (checkReport (r .check) ≡ cardReport (now (card .entry))) × (r .columns ≡ cardColumns (now (card .entry))) ⌝ }
+    ensures { λ r. ⌜ (report (r .check) ≡ cardReport (now (card .entry))) × (r .columns ≡ cardColumns (now (card .entry))) ⌝ }
 {
     let check = check(card);
     match check {

@@ -1,8 +1,8 @@
 -- Demand 1: every buffer at exit is `unlessRefused` of the call's report.
 -- Assumes nothing.
 use lib.ListN.{length}
-use Rattle.flat.specs.Faults.{cardWriteReport, cardWriteBuffer, encodeReport, encodeStripe, erasuresReport, erasuresSlice, equationsReport, equationsSlice, rebuildReport, rebuildStripe}
-use Rattle.record_format.specs.Faults.{recordWriteReport, recordWriteOutput}
+use Rattle.flat.specs.Faults.{cardReport, cardWriteReport, cardWriteBuffer, encodeReport, encodeStripe, erasuresReport, erasuresSlice, equationsReport, equationsSlice, rebuildReport, rebuildStripe}
+use Rattle.record_format.specs.Faults.{recordWriteReport, recordWriteOutput, recordReport, bodyReport}
 use Rattle.flat.proofs.Reports.{unless-not}
 use Rattle.demands.specs.Demand1.{Demand1}
 
@@ -15,5 +15,10 @@ demand1 = record {
   equations = λ card d slice. unless-not (equationsReport card d (length slice)) _ slice;
   rebuilder = λ card L S stripe. unless-not (rebuildReport card L S stripe) _ stripe;
   record-writer = λ card L S stripe output. unless-not (recordWriteReport card L S (length stripe) (length output)) _ output;
-  arrays = unless-not;
+  card-counts = λ card counts. unless-not (cardReport card) _ counts;
+  card-columns = λ card columns. unless-not (cardReport card) _ columns;
+  vector = λ card n vector. unless-not (erasuresReport card n) _ vector;
+  record-fields = λ file fields. unless-not (recordReport file) _ fields;
+  record-columns = λ file columns. unless-not (recordReport file) _ columns;
+  body-place = λ file d place. unless-not (bodyReport file d) _ place;
 }

@@ -18,7 +18,7 @@ use Rattle.flat.proofs.Positions.{byte-take, given-byte}
 use Rattle.flat.proofs.Words.{holds-data, holds-parity}
 use Rattle.flat.proofs.Theorems.{card-reads-back, card-writes-back}
 use Rattle.record_format.proofs.Theorems.{records-read-back, records-write-back}
-use Rattle.demands.specs.Demand2.{Demand2, Encoded}
+use Rattle.demands.specs.Demand2.{Demand2, RightEncoding}
 
 module _ (card : List ℕ) (L : ℕ) (stripe : List ℕ) (ok : encodeReport card L (length stripe) ≡ accepted []) where
   abbrev C : Code
@@ -39,7 +39,7 @@ module _ (card : List ℕ) (L : ℕ) (stripe : List ℕ) (ok : encodeReport card
       let t = passed (not (lengthOk L)) 5 [] [] _ (with-out card [] (λ D. encodeTests D L (length stripe)) ok .1) .1 in
       eqb-true (length stripe) (disks C * L) (not-false fits (passed (not fits) 6 [] [] (accepted []) t .0))
 
-  encoded-right : Encoded card L stripe
+  encoded-right : RightEncoding card L stripe
   unfolding given disks
   encoded-right = record {
     parity = λ j t h l. ap (λ (s : List ℕ). byteOf L s t (C .k + j)) written ∙ given-byte C L content t (C .k + j) l (omega arith)

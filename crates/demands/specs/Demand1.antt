@@ -6,12 +6,13 @@
 -- Assumes nothing.
 use mathlib.Core.Path.{_≡_}
 use mathlib.Core.Logic.{_≢_}
-use mathlib.Core.List.{List}
-use Prim.Native.Nat.{ℕ}
+use mathlib.Core.List.{List, [], _∷_}
+use Prim.Native.Nat.{ℕ, suc}
 use lib.ListN.{length}
 use Rattle.flat.specs.Cards.{Code}
-use Rattle.flat.specs.Faults.{Report, unlessRefused, cardWriteReport, cardWriteBuffer, encodeReport, encodeStripe, erasuresReport, erasuresSlice, equationsReport, equationsSlice, rebuildReport, rebuildStripe}
-use Rattle.record_format.specs.Faults.{recordWriteReport, recordWriteOutput}
+use Rattle.flat.specs.Faults.{Report, unlessRefused, cardReport, cardColumns, cardWriteReport, cardWriteBuffer, encodeReport, encodeStripe, erasuresReport, erasuresVector, erasuresSlice, equationsReport, equationsSlice, rebuildReport, rebuildStripe}
+use Rattle.record_format.specs.Records.{offsetIn, bodyLengthIn}
+use Rattle.record_format.specs.Faults.{recordWriteReport, recordWriteOutput, recordReport, recordColumns, bodyReport}
 
 -- the call is refused
 abbrev pub Refused : Report → Type 0
@@ -25,5 +26,12 @@ pub record Demand1 : Type 0 where
   pub rebuilder : (card : List ℕ) (L S : ℕ) (stripe : List ℕ) → Refused (rebuildReport card L S stripe) → rebuildStripe card L S stripe ≡ stripe
   pub record-writer : (card : List ℕ) (L S : ℕ) (stripe output : List ℕ) → Refused (recordWriteReport card L S (length stripe) (length output))
       → recordWriteOutput card L S stripe output ≡ output
-  -- the arrays that a caller in C lends: each is, at exit, `unlessRefused` of the call's report, of what it is filled with, and of what it was
-  pub arrays : (r : Report) (new old : List ℕ) → Refused r → unlessRefused r new old ≡ old
+  -- the arrays that a caller in C lends, as the exported calls leave them: the card reader's, the lister's, the record reader's and the body
+  -- call's
+  pub card-counts : (card counts : List ℕ) → Refused (cardReport card) → unlessRefused (cardReport card) (cardReport card .values) counts ≡ counts
+  pub card-columns : (card columns : List ℕ) → Refused (cardReport card) → unlessRefused (cardReport card) (cardColumns card) columns ≡ columns
+  pub vector : (card : List ℕ) (n : ℕ) (vector : List ℕ) → Refused (erasuresReport card n) → unlessRefused (erasuresReport card n) (erasuresVector card n) vector ≡ vector
+  pub record-fields : (file fields : List ℕ) → Refused (recordReport file) → unlessRefused (recordReport file) (recordReport file .values) fields ≡ fields
+  pub record-columns : (file columns : List ℕ) → Refused (recordReport file) → unlessRefused (recordReport file) (recordColumns file) columns ≡ columns
+  pub body-place : (file : List ℕ) (d : ℕ) (place : List ℕ) → Refused (bodyReport file d)
+      → unlessRefused (bodyReport file d) (offsetIn file (suc d) ∷ bodyLengthIn file (suc d) ∷ []) place ≡ place

@@ -17,7 +17,7 @@ use Rattle.minimal_words.specs.Listed.{Listable}
 use Rattle.bases.proofs.Systematic.{checks-systematic, listable}
 use Rattle.card.specs.declared.CardFault.{CardFault}
 use Rattle.card.specs.declared.CardCheck.the-variants.{Bad}
-use Rattle.card.specs.Reports.{faultReport, checkReport}
+use Rattle.card.specs.Reports.{faultReport, report as checkReport}
 use Rattle.card.proofs.Laws.{unless-fault}
 use Rattle.card.proofs.Callers.{GoodCard, good-with, bad-card}
 

@@ -10,7 +10,7 @@ use Rattle.flat.specs.Erasures.{erasures, vector}
 use Rattle.flat.specs.Faults.{Report, unlessRefused, cardReport, listReport, listSlice, erasuresReport, erasuresVector, erasuresSlice}
 use Rattle.card.specs.declared.CardFault.{CardFault}
 use Rattle.card.specs.declared.CardCheck.the-variants.{Bad}
-use Rattle.card.specs.Reports.{faultReport, checkReport}
+use Rattle.card.specs.Reports.{faultReport, report as checkReport}
 use Rattle.card.proofs.Laws.{unless-fault}
 use Rattle.card.proofs.Callers.{GoodCard, good-with, bad-card}
 

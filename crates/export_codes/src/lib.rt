@@ -8,8 +8,8 @@ ghost use mathlib.Core.List.{[], _∷_};
 ghost use Rattle.flat.specs.Faults.{refused};
 ghost use Rattle.card.specs.Reports.{faultReport};
 ghost use Rattle.card_writer.specs.Reports.{report as writtenReport};
-ghost use Rattle.verdicts.specs.Reports.{report as verdictReport};
-ghost use Rattle.likeness.specs.Reports.{report as alikeReport};
+ghost use Rattle.verdicts.specs.Reports.{report as setVerdictReport};
+ghost use Rattle.likeness.specs.Reports.{report as likenessReport};
 ghost use Rattle.erasures.specs.Reports.{report as listedReport};
 ghost use Rattle.equations.specs.Reports.{report as toldReport};
 ghost use Rattle.encoder.specs.Reports.{report as encodedReport};
@@ -73,8 +73,8 @@ pub fn encoded_code(encoded: Encoded) -> u64
 
 // The verdict call's answer.
 pub fn verdict_code(verdict: SetVerdict) -> u64
-    requires { ⌜ Fits (verdictReport verdict) ⌝ }
-    ensures { λ r. ⌜ r ≡ coded (verdictReport verdict) ⌝ }
+    requires { ⌜ Fits (setVerdictReport verdict) ⌝ }
+    ensures { λ r. ⌜ r ≡ coded (setVerdictReport verdict) ⌝ }
 {
     match verdict {
         SetVerdict::Fatal => packed(0, 1),
@@ -86,8 +86,8 @@ pub fn verdict_code(verdict: SetVerdict) -> u64
 
 // The answer to whether two cards are alike.
 pub fn likeness_code(likeness: Likeness) -> u64
-    requires { ⌜ Fits (alikeReport likeness) ⌝ }
-    ensures { λ r. ⌜ r ≡ coded (alikeReport likeness) ⌝ }
+    requires { ⌜ Fits (likenessReport likeness) ⌝ }
+    ensures { λ r. ⌜ r ≡ coded (likenessReport likeness) ⌝ }
 {
     match likeness {
         Likeness::Alike => packed(0, 1),

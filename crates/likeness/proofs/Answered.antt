@@ -12,7 +12,7 @@ use Rattle.flat.specs.Alike.{alike}
 use Rattle.flat.specs.Faults.{Report, accepted, yesNo, withCard, alikeReport, cardReport}
 use Rattle.card.specs.declared.CardFault.{CardFault}
 use Rattle.card.specs.declared.CardCheck.the-variants.{Bad}
-use Rattle.card.specs.Reports.{faultReport, checkReport}
+use Rattle.card.specs.Reports.{faultReport, report as checkReport}
 use Rattle.card.proofs.Callers.{GoodCard, good-with, bad-card}
 use Rattle.erasures.proofs.Enumerated.{vector-length}
 use Rattle.likeness.proofs.Comparing.{same-padded}

@@ -14,7 +14,7 @@ use Rattle.flat.specs.Faults.{Report, unlessRefused, refused, cardReport, disks
 use Rattle.flat.proofs.Tested.{Passed, tests-length, tests-set, tests-size, tests-past}
 use Rattle.card.specs.declared.CardFault.{CardFault}
 use Rattle.card.specs.declared.CardCheck.the-variants.{Bad}
-use Rattle.card.specs.Reports.{faultReport, checkReport}
+use Rattle.card.specs.Reports.{faultReport, report as checkReport}
 use Rattle.card.proofs.Laws.{unless-fault}
 use Rattle.card.proofs.Callers.{GoodCard, good-with, bad-card}
 

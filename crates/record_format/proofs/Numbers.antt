@@ -11,7 +11,7 @@ use lib.Dec.{T, eqb, eqb-refl}
 use lib.ListN.{length, getD, take, drop, length-take, List·getD-eq-default}
 use lib.Seq.{getD-take, getD-drop}
 use Rattle.gf2.specs.If.{if_then_else_}
-use Rattle.gf2.proofs.Tests.{and-in, and-out, eqb-out, below-suc, below-or, if-true, if-false}
+use Rattle.gf2.proofs.Tests.{and-in, and-out, eqb-out, below-suc, below-or, if-true}
 use Rattle.flat.specs.Lists.{Bytes, count, same, bytes, number}
 
 -- ---- numbers in bytes
@@ -77,16 +77,11 @@ count-le (suc n) p = go (p n) (count-le n p)
     go true h = omega arith
     go false h = omega arith
 
--- the next number is one more where it has the property, and no more where not
+-- the next number is one more where it has the property
 pub count-more : (i : ℕ) (p : ℕ → Bool) → T (p i) → count (suc i) p ≡ suc (count i p)
 unfolding count
 count-more i p t =
     let w : _≡_ {A = ℕ} (if p i then 1 else 0) 1 = if-true (p i) 1 0 t in omega arith
-
-pub count-skip : (i : ℕ) (p : ℕ → Bool) → (T (p i) → ⊥) → count (suc i) p ≡ count i p
-unfolding count
-count-skip i p f =
-    let w : _≡_ {A = ℕ} (if p i then 1 else 0) 0 = if-false (p i) 1 0 f in omega arith
 
 -- a larger bound has as many at least
 pub count-grows : (p : ℕ → Bool) (i n : ℕ) → i ≤ n → count i p ≤ count n p

@@ -14,7 +14,7 @@ use Rattle.record_format.specs.Records.{entryCount, recordLength, lengthIn, ent
 use Rattle.record_format.specs.Faults.{stripsReport, withRecord, readReport, recordReport}
 use Rattle.card.specs.declared.CardFault.{CardFault}
 use Rattle.card.specs.declared.CardCheck.the-variants as card
-use Rattle.card.specs.Reports.{faultReport, checkReport}
+use Rattle.card.specs.Reports.{faultReport, report as checkReport}
 use Rattle.card.proofs.Callers.{GoodCard, good-with, bad-card}
 
 -- ---- the tests before the card's

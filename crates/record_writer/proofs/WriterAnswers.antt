@@ -22,7 +22,7 @@ use Rattle.record_format.proofs.Parts.{length-record}
 use Rattle.record_format.proofs.Written.{Recordable, record-passed}
 use Rattle.card.specs.declared.CardFault.{CardFault}
 use Rattle.card.specs.declared.CardCheck.the-variants.{Bad}
-use Rattle.card.specs.Reports.{faultReport, checkReport}
+use Rattle.card.specs.Reports.{faultReport, report as checkReport}
 use Rattle.card.proofs.Laws.{unless-fault}
 use Rattle.card.proofs.Callers.{GoodCard, good-with, bad-card}
 use Rattle.flat.specs.Lists.{put}

@@ -6,9 +6,8 @@
 ghost use mathlib.Core.Path.{_≡_};
 ghost use Prim.Native.Nat.{suc, _+_, _*_, _<_, _≤_};
 ghost use lib.ListN.{length};
-ghost use Rattle.flat.specs.Lists.{range, each};
+ghost use Rattle.flat.specs.Lists.{range, each, put};
 ghost use Rattle.record_format.specs.Records.{stripsAt, bodyAt, stripEntry, stripBody, recordBytes};
-ghost use Rattle.flat.specs.Lists.{put};
 use copies::copy;
 use copies::copy_long;
 use record_contents::body_at;

@@ -1,6 +1,6 @@
 // What the survivors of a lost set tell, in sets alone, out of the rows and the checks of a code: which
-// lost disks stay undetermined, which sets of survivors must XOR to 0, and an equation of each lost disk
-// that they determine. No strip is read here, and no card.
+// lost disks stay undetermined, and an equation of each lost disk that they determine. No strip is read
+// here, and no card. Which sets of survivors must XOR to 0, `gf2::within` answers of the checks.
 //
 // What these are is said in flat/specs: Erasures, Spans and Repairs, with the theorems of Theorems and
 // Rebuilt.

@@ -16,7 +16,7 @@ use Rattle.flat.specs.Faults.{accepted, refused, yesNo, cardReport, verdictTest
 use Rattle.repairs.proofs.Callers.{undetermined-fatal}
 use Rattle.card.specs.declared.CardFault.{CardFault}
 use Rattle.card.specs.declared.CardCheck.the-variants.{Bad}
-use Rattle.card.specs.Reports.{faultReport, checkReport}
+use Rattle.card.specs.Reports.{faultReport, report as checkReport}
 use Rattle.card.proofs.Callers.{GoodCard, good-with, bad-card}
 
 module _ (k m : ℕ) (columns : List ℕ) (S : ℕ) where

@@ -1,4 +1,4 @@
--- Impostors: wrong definitions that look right, each written out, and a worked code that tells it from the true one.
+-- Impostors: wrong definitions and lists that look right, and a worked code that tells each from the true one.
 -- Document 01 warns of most of them under "What tempts a builder" and "Before a delivery is taken".
 -- Assumes nothing.
 use mathlib.Core.Path.{_≡_}
@@ -45,7 +45,7 @@ sticks C S = every (C .m) (λ j. not (eqb (size (check C j ∩ S)) 1))
 abbrev pub StuckRestored : Type 0
 StuckRestored =
     (sticks (C8 .of) (C8 .lost) ≡ true)
-    × (rebuildReport (cardBytes (C8 .of)) (C8 .L) (C8 .lost) (C8 .entry) ≡ accepted (3 ∷ []))
+    × (rebuildReport (cardBytes (C8 .of)) (C8 .L) (C8 .lost) (C8 .entry) ≡ C8 .answer)
 
 -- ---- what is listed
 

@@ -9,7 +9,7 @@ use denote.Ref.{now}
 use Rattle.flat.specs.Faults.{cardReport}
 use Rattle.flat.proofs.RoundTrip.{columns-read}
 use Rattle.card.specs.declared.CardCheck.the-variants.{Good}
-use Rattle.card.specs.Reports.{checkReport}
+use Rattle.card.specs.Reports.{report}
 use Rattle.card.proofs.Laws.{columns-refused}
 use Rattle.card.proofs.Callers.{GoodCard, good}
 use Rattle.card.proofs.read.Statement.{statement}
@@ -28,8 +28,8 @@ enum-known-check c = search needs
 abbrev cardAt : tie.After-known-told → List ℕ
 cardAt c = now (c .before .before .before .before .before .args .card)
 
-found : (c : tie.After-known-told) → checkReport (Good (c .before .check2 .given .0 .0) (c .before .check2 .given .0 .1 .0)) ≡ cardReport (cardAt c)
-found c = ap checkReport (sym (c .before .check2 .given .1)) ∙ c .before .before .before .check .ensures
+found : (c : tie.After-known-told) → report (Good (c .before .check2 .given .0 .0) (c .before .check2 .given .0 .1 .0)) ≡ cardReport (cardAt c)
+found c = ap report (sym (c .before .check2 .given .1)) ∙ c .before .before .before .check .ensures
 
 known : (c : tie.After-known-told) → GoodCard (cardAt c) (c .before .check2 .given .0 .0) (c .before .check2 .given .0 .1 .0)
 known c = good _ _ _ (found c)
@@ -45,7 +45,7 @@ columns-of-requires c κs =
 returns : tie.Need-returns
 returns c =
     let e = c .before .before .check .ensures in
-    (e, columns-refused _ (c .enum-told .given .0 .0) (ap checkReport (sym (c .enum-told .given .1)) ∙ e))
+    (e, columns-refused _ (c .enum-told .given .0 .0) (ap report (sym (c .enum-told .given .1)) ∙ e))
 
 returns-2 : tie.Need-returns-2
 returns-2 c =

@@ -6,7 +6,7 @@ use native.Mathlib.Omega.{arith}
 use borrow.Author.Tests.{not-true, not-false}
 use denote.Ref.{now}
 use Rattle.flat.specs.Strips.{lengthOk}
-use Rattle.card.specs.Reports.{checkReport}
+use Rattle.card.specs.Reports.{report as checkReport}
 use Rattle.card.proofs.Callers.{GoodCard, good}
 use Rattle.flat.proofs.Lengths.{length-in, stripe-small}
 use Rattle.encoder.proofs.Answered.{stripe-kept, bad-report, bad-stripe, long-report, other-report, good-report, good-stripe}

@@ -5,7 +5,7 @@ use borrow.Author.Needs.{needs}
 use denote.Ref.{now}
 use lib.ListN.{length}
 use Rattle.flat.specs.Faults.{equationsReport}
-use Rattle.card.specs.Reports.{checkReport}
+use Rattle.card.specs.Reports.{report as checkReport}
 use Rattle.card.proofs.Callers.{GoodCard, good}
 use Rattle.equations.specs.Reports.{report}
 use Rattle.equations.proofs.Laws.{bad-report, bad-slice, outside-report, outside-slice, good-report, good-slice}

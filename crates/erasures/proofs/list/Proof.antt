@@ -6,7 +6,7 @@ use borrow.Author.Needs.{needs}
 use denote.Ref.{now}
 use lib.ListN.{length}
 use Rattle.flat.specs.Faults.{erasuresReport}
-use Rattle.card.specs.Reports.{checkReport}
+use Rattle.card.specs.Reports.{report as checkReport}
 use Rattle.card.proofs.Callers.{GoodCard, good}
 use Rattle.erasures.specs.Reports.{report}
 use Rattle.erasures.proofs.Answered.{bad-report, bad-vector, bad-slice, good-report, good-vector, good-slice}

@@ -9,7 +9,7 @@ use Rattle.flat.specs.Cards.{columnBytes, codeIn}
 use Rattle.flat.specs.Erasures.{vector}
 use Rattle.flat.specs.Alike.{alike}
 use Rattle.flat.specs.Faults.{yesNo}
-use Rattle.card.specs.Reports.{checkReport}
+use Rattle.card.specs.Reports.{report as checkReport}
 use Rattle.card.proofs.Callers.{GoodCard, good}
 use Rattle.likeness.proofs.Answered.{alike-first, alike-second, alike-both, data-differs, parity-differs, vectors-decide}
 use borrow.Author.Needs.{needs}

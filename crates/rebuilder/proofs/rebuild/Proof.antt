@@ -6,7 +6,7 @@ use Prim.Native.Nat.{ℕ}
 use borrow.Author.Needs.{needs}
 use denote.Ref.{now}
 use Rattle.flat.specs.Faults.{rebuildReport}
-use Rattle.card.specs.Reports.{checkReport}
+use Rattle.card.specs.Reports.{report as checkReport}
 use Rattle.card.proofs.Callers.{GoodCard, good}
 use Rattle.rebuilder.specs.Reports.{report}
 use Rattle.rebuilder.proofs.Answered.{good-report, good-stripe, bad-report, bad-stripe}

@@ -12,7 +12,7 @@ use lib.ListN.{length}
 use Rattle.record_format.specs.Records.{bodyIn, lengthIn, entryCountIn, markOk, entriesOk}
 use Rattle.flat.specs.Strips.{lengthOk}
 use Rattle.flat.specs.Faults.{cardReport}
-use Rattle.card.specs.Reports.{checkReport}
+use Rattle.card.specs.Reports.{report as checkReport}
 use Rattle.card.proofs.Callers.{GoodCard, good}
 use Rattle.flat.proofs.Lengths.{length-in}
 use Rattle.record_reader.proofs.Heads.{ten-bytes, entries-in, card-in, card-part, length-at, entries-at}

@@ -4,7 +4,7 @@ use mathlib.Core.Path.{_≡_, sym, ap, _∙_}
 use denote.Ref.{now}
 use lib.ListN.{length}
 use Rattle.record_format.specs.Faults.{recordWriteReport}
-use Rattle.card.specs.Reports.{checkReport}
+use Rattle.card.specs.Reports.{report as checkReport}
 use Rattle.card.proofs.Callers.{GoodCard, good}
 use Rattle.record_writer.specs.Reports.{report}
 use Rattle.record_writer.proofs.WriterAnswers.{good-report, good-output, bad-report, bad-output}

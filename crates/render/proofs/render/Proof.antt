@@ -4,7 +4,7 @@ use mathlib.Core.Path.{_≡_, sym, ap, _∙_}
 use borrow.Author.Needs.{needs}
 use denote.Ref.{now}
 use lib.ListN.{length}
-use Rattle.card.specs.Reports.{checkReport}
+use Rattle.card.specs.Reports.{report as checkReport}
 use Rattle.erasures.proofs.Answered.{bad-report, bad-slice}
 use Rattle.text.specs.Text.{refusedText}
 use Rattle.render.specs.Printed.{printed}

@@ -4,7 +4,7 @@ use mathlib.Core.List.{List}
 use Prim.Native.Nat.{ℕ}
 use borrow.Author.Needs.{needs}
 use denote.Ref.{now}
-use Rattle.card.specs.Reports.{checkReport}
+use Rattle.card.specs.Reports.{report as checkReport}
 use Rattle.card.proofs.Callers.{GoodCard, good}
 use Rattle.verdicts.proofs.Laws.{good-report, bad-report}
 use Rattle.verdicts.proofs.verdict.Statement.{statement}

@@ -5,7 +5,7 @@ use mathlib.Core.List.{[], _∷_}
 use borrow.Author.Needs.{needs}
 use denote.Ref.{now}
 use Rattle.flat.specs.Faults.{accepted, cardReport}
-use Rattle.card.specs.Reports.{faultReport, checkReport}
+use Rattle.card.specs.Reports.{faultReport, report as checkReport}
 use Rattle.card.proofs.Laws.{unless-fault}
 use Rattle.export_bounds.specs.Coded.{coded}
 use Rattle.export_bounds.proofs.Values.{card-fits}
