@@ -1,171 +1,146 @@
-/* Bad input from C: every call with null pointers of length 0, wrong lengths and numbers out of range (bad_input_rows.h), refused by its
- * number with every lent byte as it was, all buffers flush against closed pages (bad_input_call.h). A length that promises memory
- * which is not there is no input. Ends with the number of calls.
+/* Every call from C, as the header declares it: null pointers of length 0, wrong lengths, numbers and sets out of range. The answers stand here,
+ * with the number that document 01's order of faults gives; a refused call changes no lent byte. What an accepted call writes, and that
+ * no call reaches outside its buffers, is tried in rust/calls. Ends with the number of calls.
  */
-#define _DEFAULT_SOURCE
-#include "bad_input_rows.h"
+#include <stdio.h>
+#include <stdlib.h>
+#include <string.h>
 
-#define COUNT(table) (sizeof(table) / sizeof *(table))
-#define TWO_32 ((size_t)1 << 32)
+#include "bridgecrumb.h"
 
-static void try_rows(const struct row *rows, size_t count)
+static const uint8_t c1[] = {4, 3, 7, 0, 11, 0, 13, 0}, c3[] = {2, 2, 1, 0, 2, 0}, c4[] = {1, 2, 1, 0, 1, 0}, c6[] = {2, 1, 1, 0};
+static const uint8_t c7[] = {0x11, 0x22, 0x44, 0x88, 0x77, 0xbb, 0xdd}; /* a stripe of C1 */
+static const uint16_t columns[] = {7, 11, 13, 1}, wrong_columns[] = {7, 16, 0};
+static uint8_t record[104]; /* of C1 with that stripe and disk 2 lost */
+
+/* everything that is lent to be written, and what it was before the call */
+struct lent {
+    uint8_t stripe[8], out[112];
+    uint32_t slice[16];
+    size_t numbers[17];
+    uint16_t columns[16];
+};
+static struct lent lent, before;
+static unsigned tried;
+
+static void begin(void)
 {
-    for (size_t r = 0; r < count; r++)
-        try_row(&rows[r]);
+    memset(&lent, 0xa5, sizeof lent);
+    memcpy(lent.stripe, c7, sizeof c7);
+    before = lent;
 }
 
-/* ---- cards, in every call that takes one */
-
-static void card_faults(void)
+static void compare(const char *call, uint64_t answer, unsigned number, uint64_t value)
 {
-    try_rows(around_cards, COUNT(around_cards));
-    for (size_t c = 0; c < COUNT(around_cards); c++)
-        for (size_t b = 0; b < COUNT(bad_cards); b++) {
-            struct row r = around_cards[c];
-            r.bytes = bad_cards[b].bytes;
-            r.bytes_len = bad_cards[b].length;
-            r.answer = bad_cards[b].answer;
-            r.why = bad_cards[b].why;
-            try_row(&r);
-        }
+    tried++;
+    if (answer == number + 256 * value && (number == 0 || memcmp(&lent, &before, sizeof lent) == 0))
+        return;
+    fprintf(stderr, "%s: number %u, value %llu; %u and %llu are wanted, and no change where it is refused\n", call, BRIDGECRUMB_NUMBER(answer),
+            (unsigned long long)BRIDGECRUMB_VALUE(answer), number, (unsigned long long)value);
+    exit(1);
 }
 
-static void second_cards(void)
+/* what the call answers: a number, and a value */
+#define TRY(number, value, call) (begin(), compare(#call, bridgecrumb_##call, number, value))
+
+static void cards(void)
 {
-    for (size_t b = 0; b < COUNT(bad_cards); b++) {
-        const struct row second = alike(BYTES_OF(C1), LENT(bad_cards[b].bytes, bad_cards[b].length), bad_cards[b].answer, "the second card");
-        const struct row both = alike(BYTES_OF("\0\1\1\0"), LENT(bad_cards[b].bytes, bad_cards[b].length), 2, "both cards: the first one's refusal");
-        try_row(&second);
-        try_row(&both);
-    }
+    static const uint8_t bad[] = {0, 0, 17, 4, 3, 0, 0, 11, 0, 16, 0};
+    TRY(0, 0, card_read(c1, 8, lent.numbers, lent.columns));
+    TRY(1, 0, card_read(NULL, 0, lent.numbers, lent.columns));
+    TRY(1, 0, card_read(c1, 1, lent.numbers, lent.columns));
+    TRY(2, 0, card_read(bad, 2, lent.numbers, lent.columns));
+    TRY(2, 0, card_read(bad + 2, 8, lent.numbers, lent.columns));
+    TRY(3, 0, card_read(c1 + 4, 4, lent.numbers, lent.columns));
+    TRY(4, 0, card_read(c1, 7, lent.numbers, lent.columns));
+    TRY(5, 0, card_read(bad + 3, 8, lent.numbers, lent.columns)); /* columns 0 and 2 are wrong: the first */
+    TRY(0, 0, card_write(4, 3, columns, 3, lent.out, 8));
+    TRY(2, 0, card_write(0, 0, NULL, 0, NULL, 0));
+    TRY(2, 0, card_write(SIZE_MAX, 3, columns, 3, lent.out, 8));
+    TRY(3, 0, card_write(4, 0, NULL, 0, NULL, 0));
+    TRY(3, 0, card_write(4, ((size_t)1 << 32) + 3, columns, 3, lent.out, 8));
+    TRY(4, 0, card_write(4, 3, NULL, 0, NULL, 0));
+    TRY(4, 0, card_write(4, 3, columns, 4, lent.out, 8));
+    TRY(5, 1, card_write(4, 3, wrong_columns, 3, NULL, 0));
+    TRY(7, 0, card_write(4, 3, columns, 3, NULL, 0));
+    TRY(7, 0, card_write(4, 3, columns, 3, lent.out, 9));
+    TRY(0, 1, alike(c1, 8, c1, 8));
+    TRY(0, 0, alike(c1, 8, c3, 6));
+    TRY(1, 0, alike(NULL, 0, NULL, 0));
+    TRY(1, 0, alike(c1, 8, NULL, 0));
+    TRY(2, 0, alike(bad, 2, c1, 1));
 }
 
-/* ---- numbers and sets out of range */
-
-static void wrong_counts(void)
+static void sets(void)
 {
-    static const size_t counts[] = {0, 17, 255, 256 + 3, 65536 + 3, TWO_32, TWO_32 + 3, (size_t)1 << 63, SIZE_MAX};
-    for (size_t v = 0; v < COUNT(counts); v++) {
-        const struct row rows[] = {
-            card_write(counts[v], 3, COLUMNS_OF("\7\0\13\0\15\0"), 8, 2, "k out of range"),
-            card_write(4, counts[v], COLUMNS_OF("\7\0\13\0\15\0"), 8, 3, "m out of range"),
-            card_write(counts[v], counts[v], COLUMNS_OF("\7\0\13\0\15\0"), 8, 2, "k and m out of range: k first"),
-        };
-        try_rows(rows, COUNT(rows));
-    }
+    TRY(0, 1, verdict(c1, 8, 14));
+    TRY(0, 0, verdict(c1, 8, 7));
+    TRY(1, 0, verdict(NULL, 0, 0xffffffff));
+    TRY(8, 0, verdict(c1, 8, 0x80));
+    TRY(8, 0, verdict(c1, 8, 0xffffffff));
+    TRY(0, 14, list(c1, 8, lent.slice, 14, lent.numbers));
+    TRY(1, 0, list(NULL, 0, NULL, 0, lent.numbers));
+    TRY(10, 14, list(c1, 8, NULL, 0, lent.numbers));
+    TRY(10, 2, list(c3, 6, lent.slice, 1, lent.numbers));  /* C12 */
+    TRY(10, 1, list(c4, 6, NULL, 0, lent.numbers));        /* every code has an entry */
+    TRY(0, 4, equations(c1, 8, 0, lent.slice, 4));
+    TRY(0, 0, equations(c6, 4, 1, NULL, 0));               /* a disk in no column has none */
+    TRY(1, 0, equations(NULL, 0, SIZE_MAX, NULL, 0));
+    TRY(9, 0, equations(c1, 8, 7, NULL, 0));
+    TRY(9, 0, equations(c1, 8, (size_t)1 << 32, lent.slice, 4));
+    TRY(10, 4, equations(c1, 8, 0, lent.slice, 3));
 }
 
-static void wrong_strip_lens(void)
+static void stripes(void)
 {
-    static const size_t lens[] = {0, 65537, 65536 + 256, TWO_32, TWO_32 + 1, TWO_32 + 65536, (size_t)1 << 62, (size_t)1 << 63, SIZE_MAX};
-    for (size_t v = 0; v < COUNT(lens); v++) {
-        const struct row rows[] = {
-            encode(BYTES_OF(C1), lens[v], ROOM(7), 6, "L out of range"),
-            rebuild(BYTES_OF(C1), lens[v], 0, ROOM(7), 6, "L out of range"),
-            rebuild(BYTES_OF(C1), lens[v], ALL, ROOM(7), 6, "L out of range, before the set"),
-            record_write(BYTES_OF(C1), lens[v], 0, ROOM(7), 105, 6, "L out of range"),
-            record_write(BYTES_OF(C1), lens[v], ALL, ROOM(7), 105, 6, "L out of range, before the set"),
-        };
-        try_rows(rows, COUNT(rows));
-    }
+    TRY(0, 0, encode(c1, 8, 1, lent.stripe, 7));
+    TRY(1, 0, encode(NULL, 0, 0, NULL, 0));
+    TRY(6, 0, encode(c1, 8, 0, NULL, 0));                              /* L = 0 fits the null stripe, and is refused */
+    TRY(6, 0, encode(c3, 6, ((size_t)1 << 62) + 1, lent.stripe, 4));   /* four times L is 4 in 64 bits */
+    TRY(7, 0, encode(c1, 8, 1, NULL, 0));
+    TRY(7, 0, encode(c1, 8, 65536, lent.stripe, 7));
+    TRY(0, 3, rebuild(c1, 8, 1, 7, lent.stripe, 7));
+    TRY(0, 0, rebuild(c1, 8, 1, 0, lent.stripe, 7));                   /* nothing lost: a check */
+    TRY(1, 0, rebuild(NULL, 0, 0, 0xffffffff, NULL, 0));
+    TRY(6, 0, rebuild(c1, 8, SIZE_MAX, 0xffffffff, NULL, 0));
+    TRY(8, 0, rebuild(c1, 8, 1, 0x80, NULL, 0));
+    TRY(7, 0, rebuild(c1, 8, 1, 14, NULL, 0));
+    TRY(7, 0, rebuild(c1, 8, 1, 14, lent.stripe, 8));
+    TRY(11, 0, rebuild(c1, 8, 1, 14, lent.stripe, 7));                 /* C10 */
+    TRY(11, 0, rebuild(c3, 6, 1, 15, lent.stripe, 4));
+    TRY(12, 0, rebuild(c3, 6, 1, 1, lent.stripe, 4));                  /* disk 1 and its mirror differ */
 }
 
-static void wrong_sets(void)
+static void records(void)
 {
-    for (int disk = 7; disk < 32; disk++) {
-        uint32_t sets[] = {(uint32_t)1 << disk, ALL << disk, ALL >> (31 - disk)};
-        for (int s = 0; s < 3; s++) {
-            const struct row rows[] = {
-                verdict(BYTES_OF(C1), sets[s], 8, "a disk that the code lacks"),
-                rebuild(BYTES_OF(C1), 1, sets[s], BYTES_OF(C7), 8, "a disk that the code lacks"),
-                rebuild(BYTES_OF(C1), 1, sets[s], ROOM(0), 8, "a disk that the code lacks, before the stripe"),
-                record_write(BYTES_OF(C1), 1, sets[s], BYTES_OF(C7), 105, 8, "a disk that the code lacks"),
-                record_write(BYTES_OF(C1), 1, sets[s], ROOM(0), 0, 8, "a disk that the code lacks, before the stripe"),
-            };
-            try_rows(rows, COUNT(rows));
-        }
-    }
-}
-
-static void wrong_disks(void)
-{
-    static const size_t disks[] = {7, 8, 31, 32, 33, 255, 256, 65536, TWO_32, TWO_32 + 1, (size_t)1 << 63, SIZE_MAX};
-    for (size_t v = 0; v < COUNT(disks); v++) {
-        const struct row rows[] = {
-            equations(BYTES_OF(C1), disks[v], 4, 9, "disk n or above"),
-            equations(BYTES_OF(C1), disks[v], 0, 9, "disk n or above, before the slice"),
-            record_body(BYTES_OF(RECORD), disks[v], 9, "disk n or above"),
-        };
-        try_rows(rows, COUNT(rows));
-    }
-}
-
-/* ---- record files: to the reader, and to the body call with a good disk, a lost one and none */
-
-static void try_file(const char *file, size_t length, uint64_t answer, const char *why)
-{
-    const struct row rows[] = {
-        record_read(LENT(file, length), answer, why),
-        record_body(LENT(file, length), 0, answer, why),
-        record_body(LENT(file, length), 2, answer == 0 ? 16 : answer, why),
-        record_body(LENT(file, length), SIZE_MAX, answer == 0 ? 9 : answer, why),
-    };
-    try_rows(rows, COUNT(rows));
-}
-
-/* cut short at every place, and longer */
-static void other_lengths(void)
-{
-    char longer[104 + 256] = RECORD;
-    for (size_t length = 0; length < 104; length++)
-        if (length < 10)
-            try_file(RECORD, length, 13, "under 10 bytes");
-        else if (length < 98)
-            try_file(RECORD, length, 14, length < 90 ? "entries past the end" : "the card's body past the end");
-        else
-            try_file(RECORD, length, 15, "strips are missing");
-    try_file(RECORD, 104, 0, "a good record");
-    try_file(longer, 105, 15, "one byte more");
-    try_file(longer, 104 + 256, 15, "256 bytes more");
-}
-
-static void damaged_files(void)
-{
-    for (size_t d = 0; d < COUNT(damages); d++) {
-        char file[105] = RECORD;
-        memcpy(file + damages[d].at, damages[d].bytes, damages[d].count);
-        try_file(file, 104, damages[d].answer, damages[d].why);
-    }
-}
-
-/* ---- the count */
-
-static void print_counts(void)
-{
-    uint64_t all = 0;
-    for (int call = 0; call < CALLS; call++)
-        all += tried[call];
-    printf("bad input: %llu calls, %llu refused and %llu accepted (", (unsigned long long)all, (unsigned long long)(all - accepted_calls),
-           (unsigned long long)accepted_calls);
-    for (int call = 0; call < CALLS; call++)
-        printf("%s%s %llu", call > 0 ? ", " : "", call_names[call], (unsigned long long)tried[call]);
-    printf("), all by document 01's numbers\n");
+    TRY(0, 104, record_write(c1, 8, 1, 4, lent.stripe, 7, lent.out, 104));
+    memcpy(record, lent.out, sizeof record);
+    TRY(1, 0, record_write(NULL, 0, 0, 0xffffffff, NULL, 0, NULL, 0));
+    TRY(6, 0, record_write(c1, 8, 65537, 0x80, NULL, 0, NULL, 0));
+    TRY(8, 0, record_write(c1, 8, 1, 0x80, NULL, 0, NULL, 0));
+    TRY(7, 0, record_write(c1, 8, 1, 0, NULL, 0, NULL, 0));
+    TRY(16, 0, record_write(c1, 8, 1, 0, lent.stripe, 7, NULL, 0));
+    TRY(16, 0, record_write(c1, 8, 1, 0, lent.stripe, 7, lent.out, 104));
+    TRY(0, 0, record_read(record, 104, lent.numbers, lent.columns));
+    TRY(13, 0, record_read(NULL, 0, lent.numbers, lent.columns));
+    TRY(13, 0, record_read(record, 9, lent.numbers, lent.columns));
+    TRY(14, 0, record_read(record, 97, lent.numbers, lent.columns));
+    TRY(15, 0, record_read(record, 103, lent.numbers, lent.columns));
+    TRY(0, 0, record_body(record, 104, 6, lent.numbers));
+    TRY(13, 0, record_body(NULL, 0, SIZE_MAX, lent.numbers));
+    TRY(14, 0, record_body(record, 89, SIZE_MAX, lent.numbers));
+    TRY(15, 0, record_body(record, 103, SIZE_MAX, lent.numbers));
+    TRY(9, 0, record_body(record, 104, 7, lent.numbers));
+    TRY(9, 0, record_body(record, 104, SIZE_MAX, lent.numbers));
+    TRY(16, 0, record_body(record, 104, 2, lent.numbers));
 }
 
 int main(void)
 {
-    open_rooms();
-    watch_fences(fence_touched);
-    card_faults();
-    second_cards();
-    try_rows(card_writer, COUNT(card_writer));
-    try_rows(others, COUNT(others));
-    wrong_counts();
-    wrong_strip_lens();
-    wrong_sets();
-    wrong_disks();
-    other_lengths();
-    damaged_files();
-    print_counts();
+    cards();
+    sets();
+    stripes();
+    records();
+    printf("bad input: %u calls from C, all by document 01's numbers\n", tried);
     return 0;
 }

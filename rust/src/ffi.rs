@@ -8,9 +8,10 @@
 
 use crate::Error;
 
+#[allow(missing_docs)]
 extern "C" {
-    fn bridgecrumb_card_read(card: *const u8, card_len: usize, counts: *mut usize, columns: *mut u16) -> u64;
-    fn bridgecrumb_card_write(
+    pub fn bridgecrumb_card_read(card: *const u8, card_len: usize, counts: *mut usize, columns: *mut u16) -> u64;
+    pub fn bridgecrumb_card_write(
         k: usize,
         m: usize,
         columns: *const u16,
@@ -18,18 +19,19 @@ extern "C" {
         out: *mut u8,
         out_len: usize,
     ) -> u64;
-    fn bridgecrumb_alike(first: *const u8, first_len: usize, second: *const u8, second_len: usize) -> u64;
-    fn bridgecrumb_encode(
+    pub fn bridgecrumb_alike(first: *const u8, first_len: usize, second: *const u8, second_len: usize) -> u64;
+    pub fn bridgecrumb_encode(
         card: *const u8,
         card_len: usize,
         strip_len: usize,
         stripe: *mut u8,
         stripe_len: usize,
     ) -> u64;
-    fn bridgecrumb_verdict(card: *const u8, card_len: usize, set: u32) -> u64;
-    fn bridgecrumb_list(card: *const u8, card_len: usize, out: *mut u32, out_len: usize, vector: *mut usize) -> u64;
-    fn bridgecrumb_equations(card: *const u8, card_len: usize, disk: usize, out: *mut u32, out_len: usize) -> u64;
-    fn bridgecrumb_rebuild(
+    pub fn bridgecrumb_verdict(card: *const u8, card_len: usize, set: u32) -> u64;
+    pub fn bridgecrumb_list(card: *const u8, card_len: usize, out: *mut u32, out_len: usize, vector: *mut usize)
+        -> u64;
+    pub fn bridgecrumb_equations(card: *const u8, card_len: usize, disk: usize, out: *mut u32, out_len: usize) -> u64;
+    pub fn bridgecrumb_rebuild(
         card: *const u8,
         card_len: usize,
         strip_len: usize,
@@ -37,7 +39,7 @@ extern "C" {
         stripe: *mut u8,
         stripe_len: usize,
     ) -> u64;
-    fn bridgecrumb_record_write(
+    pub fn bridgecrumb_record_write(
         card: *const u8,
         card_len: usize,
         strip_len: usize,
@@ -47,8 +49,8 @@ extern "C" {
         out: *mut u8,
         out_len: usize,
     ) -> u64;
-    fn bridgecrumb_record_read(file: *const u8, file_len: usize, fields: *mut usize, columns: *mut u16) -> u64;
-    fn bridgecrumb_record_body(file: *const u8, file_len: usize, disk: usize, place: *mut usize) -> u64;
+    pub fn bridgecrumb_record_read(file: *const u8, file_len: usize, fields: *mut usize, columns: *mut u16) -> u64;
+    pub fn bridgecrumb_record_body(file: *const u8, file_len: usize, disk: usize, place: *mut usize) -> u64;
 }
 
 /// Takes an answer apart: the refusal's number, 0 where the call was accepted, plus 256 times the value.

@@ -33,7 +33,8 @@ compile_error!("the archive's lengths have 64 bits");
 mod cards;
 mod error;
 #[allow(unsafe_code)]
-mod ffi;
+#[doc(hidden)]
+pub mod ffi;
 mod records;
 mod sets;
 mod strips;

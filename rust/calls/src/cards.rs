@@ -1,0 +1,145 @@
+//! Cards: every small one, chosen ones, and damaged ones; and sets of their disks.
+
+use crate::choice::Choice;
+use crate::reference;
+
+/// The bytes of a card.
+pub fn card_of(k: usize, m: usize, columns: &[u16]) -> Vec<u8> {
+    let mut card = vec![k as u8, m as u8];
+    card.extend(columns.iter().flat_map(|column| column.to_le_bytes()));
+    card
+}
+
+/// Document 01's C1.
+pub fn c1() -> Vec<u8> {
+    card_of(4, 3, &[7, 11, 13])
+}
+
+/// Every card of n disks: all k, all columns.
+pub fn every_card(n: usize) -> Vec<Vec<u8>> {
+    let mut cards = Vec::new();
+    for k in 1..n {
+        let mut columns = vec![1; n - k];
+        loop {
+            cards.push(card_of(k, n - k, &columns));
+            // the next columns, counted up from the last
+            match columns.iter().rposition(|&column| column < (1 << k) - 1) {
+                None => break,
+                Some(at) => {
+                    columns[at] += 1;
+                    columns[at + 1..].fill(1);
+                }
+            }
+        }
+    }
+    cards
+}
+
+/// Columns as they come, of few data disks, all equal, full, or each the next few data disks.
+pub fn any_columns(choice: &mut Choice, k: usize, m: usize) -> Vec<u16> {
+    let full = ((1u32 << k) - 1) as u16;
+    let kind = choice.below(10);
+    let mut columns: Vec<u16> = Vec::new();
+    for j in 0..m {
+        let coin = choice.below(0x10000) as u16;
+        let column = match kind {
+            0 => columns.first().copied().unwrap_or(coin),
+            1 => full,
+            2 => 1 << (j % k) | 1 << ((j + 1) % k),
+            3..=5 => coin & choice.below(0x10000) as u16,
+            _ => coin,
+        };
+        // where nothing is left, a data disk
+        columns.push(if column & full == 0 { 1 << (coin as usize % k) } else { column & full });
+    }
+    columns
+}
+
+pub fn card_of_size(choice: &mut Choice, k: usize, m: usize) -> Vec<u8> {
+    card_of(k, m, &any_columns(choice, k, m))
+}
+
+/// A good card of up to so many data and as many parity disks; one in 16 has as many of both.
+pub fn good_card(choice: &mut Choice, largest: usize) -> Vec<u8> {
+    let (k, m) = match choice.below(16) {
+        0 => (largest, largest),
+        _ => (1 + choice.below(largest), 1 + choice.below(largest)),
+    };
+    card_of_size(choice, k, m)
+}
+
+/// A card of up to so many data and as many parity disks, or one with one or two faults, or any bytes.
+pub fn any_card(choice: &mut Choice, largest: usize) -> Vec<u8> {
+    let kind = choice.below(8);
+    if kind == 0 {
+        let len = choice.below(40);
+        return choice.bytes(len);
+    }
+    let mut card = good_card(choice, if kind < 4 { largest.min(4) } else { largest });
+    if kind == 1 {
+        for _ in 0..1 + choice.below(2) {
+            damage(choice, &mut card);
+        }
+    }
+    card
+}
+
+fn damage(choice: &mut Choice, card: &mut Vec<u8>) {
+    let counts = [0, 1, 15, 16, 17, 18, 32, 255];
+    match choice.below(7) {
+        0 => card.truncate(choice.below(card.len() + 1)),
+        1 => {
+            let more = choice.pick(&[1, 2, 3, 256, 512]);
+            card.extend(choice.bytes(more));
+        }
+        2 if !card.is_empty() => card[0] = choice.pick(&counts),
+        3 if card.len() > 1 => card[1] = choice.pick(&counts),
+        4 | 5 if card.len() > 3 => {
+            // a column of 0, or a data disk that the code lacks, the first one after its own more often than others
+            let at = 2 + 2 * choice.below(card.len() / 2 - 1);
+            let (k, old) = (usize::from(card[0]).min(15), u16::from_le_bytes([card[at], card[at + 1]]));
+            let wrong = match choice.below(4) {
+                0 | 1 => 0,
+                2 => old | 1 << k,
+                _ => old | 1 << choice.below(16),
+            };
+            card[at..at + 2].copy_from_slice(&wrong.to_le_bytes());
+        }
+        _ if !card.is_empty() => {
+            let at = choice.below(card.len());
+            card[at] = choice.byte();
+        }
+        _ => {}
+    }
+}
+
+/// How many disks a card's code has, 32 where the card is refused.
+pub fn disks_of(card: &[u8]) -> usize {
+    reference::read_card(card).map_or(32, |(k, m, _)| k + m)
+}
+
+/// A set: of up to as many disks as there is parity, of any disks, of all, or with a disk that the code lacks.
+pub fn any_set(choice: &mut Choice, card: &[u8]) -> u32 {
+    let (n, m) = reference::read_card(card).map_or((32, 16), |(k, m, _)| (k + m, m));
+    let all = ((1u64 << n) - 1) as u32;
+    match choice.below(16) {
+        0 => choice.number() as u32,
+        1 => all,
+        2 if n < 32 => choice.number() as u32 & all | 1 << (n + choice.below(32 - n)),
+        3..=6 => choice.number() as u32 & all,
+        _ => {
+            let size = choice.below(m + 1);
+            choice.set(n, size)
+        }
+    }
+}
+
+/// A disk of the code, or one that it lacks, by a little, by far, or only above its lowest bits.
+pub fn any_disk(choice: &mut Choice, n: usize) -> usize {
+    match choice.below(12) {
+        0 => n + choice.below(3),
+        1 => choice.far_number(),
+        2 => choice.below(n) | 1 << choice.pick(&[8, 16, 32, 63]),
+        _ => choice.below(n),
+    }
+}

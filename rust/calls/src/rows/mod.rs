@@ -1,0 +1,56 @@
+//! The rows, by subject, and the faults that several calls share. Each list of faults spoils its call's good arguments.
+
+pub mod cards;
+pub mod records;
+pub mod sets;
+pub mod strips;
+
+use crate::input::Input;
+use crate::table::Fault;
+
+/// The ways to one refusal.
+fn ways<T: 'static>(answer: u64, values: Vec<T>, spoil: fn(&mut Input, &T)) -> Vec<Fault> {
+    let way = |value: T| Fault { answer, spoil: Box::new(move |input| spoil(input, &value)), alone: false };
+    values.into_iter().map(way).collect()
+}
+
+/// Refusals 1 to 5 of the bytes of a card, C1's.
+fn card_faults(card: fn(&mut Input) -> &mut Vec<u8>) -> Vec<Vec<Fault>> {
+    type Change = fn(&mut Vec<u8>);
+    let changes: [(u64, Vec<Change>); 7] = [
+        (1, vec![|card| card.clear(), |card| card.truncate(1)]),
+        (2, vec![|card| card[0] = 0, |card| card[0] = 17, |card| card[0] = 255]),
+        (3, vec![|card| card[1] = 0, |card| card[1] = 17, |card| card[1] = 255]),
+        (4, vec![|card| card.truncate(2), |card| card.truncate(7), |card| card.push(0), |card| card.resize(264, 0)]),
+        (5, vec![|card| card[2] = 0, |card| card[3] = 0x80]),
+        (5 + 256, vec![|card| card[4..].fill(0), |card| card[5] = 1]),
+        (5 + 512, vec![|card| card[6] = 16]),
+    ];
+    let way =
+        |answer: u64, change: Change| Fault { answer, spoil: Box::new(move |input| change(card(input))), alone: false };
+    changes
+        .into_iter()
+        .map(|(answer, changes)| changes.into_iter().map(|change| way(answer, change)).collect())
+        .collect()
+}
+
+/// Refusal 6. Four or seven times some of these lengths are small in 64 bits.
+fn strip_len_faults() -> Vec<Fault> {
+    let wrong =
+        vec![0, 65537, 65536 + 256, 1 << 32, 1 << 32 | 1, 1 << 32 | 65536, 1 << 62, 1 << 62 | 1, 1 << 63, usize::MAX];
+    ways(6, wrong, |input, &strip_len| input.strip_len = strip_len)
+}
+
+/// Refusal 8, of each disk that C1 lacks, alone, with all above it and with all below.
+fn set_faults() -> Vec<Fault> {
+    let wrong = (7..32).flat_map(|disk| [1 << disk, !0 << disk, !0 >> (31 - disk)]).collect();
+    ways(8, wrong, |input, &disks: &u32| input.set |= disks)
+}
+
+/// Refusal 7, of a stripe of C1 with strips of 3 bytes.
+fn stripe_faults() -> Vec<Fault> {
+    ways(7, vec![-1, 1, -21, 256], |input, &more| {
+        let len = input.stripe.len() as isize + more;
+        input.stripe.resize(len as usize, 0)
+    })
+}

@@ -1,0 +1,81 @@
+//! The table of calls, and one input tried: given to the engine and to the reference, and every lent byte compared.
+
+use crate::choice::Choice;
+use crate::input::{Input, Told};
+use crate::lent::Lent;
+use crate::rows::{cards, records, sets, strips};
+
+/// A call.
+#[derive(Clone, Copy)]
+pub struct Row {
+    /// As the header has it, without its prefix.
+    pub name: &'static str,
+    /// Arguments by choice, good and bad.
+    pub any: fn(&mut Choice) -> Input,
+    /// All arguments, as far as they can be counted, that have to do with codes of so many disks.
+    pub every: fn(usize, &mut Choice, &mut dyn FnMut(&Input)),
+    /// Arguments that are accepted, and what spoils them: for each refusal in the documents' order, the ways to it.
+    pub good: fn() -> Input,
+    pub faults: fn() -> Vec<Vec<Fault>>,
+    /// Whether the reference takes long.
+    pub heavy: fn(&Input) -> bool,
+    /// The archive's call, as the header declares it.
+    pub engine: Engine,
+    /// The safe function; what it answers beside its number goes into buffers as the archive's call has them.
+    pub safe: Engine,
+    pub reference: fn(&Input) -> Told,
+}
+
+pub type Engine = fn(&Input, &mut Lent) -> u64;
+
+/// A change of good arguments, and what is then answered.
+pub struct Fault {
+    pub answer: u64,
+    pub spoil: Box<dyn Fn(&mut Input)>,
+    /// What it does to the answer depends on other faults too.
+    pub alone: bool,
+}
+
+/// In the header's order.
+pub const TABLE: [Row; 11] = [
+    cards::READ,
+    cards::WRITE,
+    cards::ALIKE,
+    strips::ENCODE,
+    sets::VERDICT,
+    sets::LIST,
+    sets::EQUATIONS,
+    strips::REBUILD,
+    records::WRITE,
+    records::READ,
+    records::BODY,
+];
+
+impl Row {
+    /// Fails where the archive's call or the safe function answers or writes anything else than the reference. Answers what was expected.
+    pub fn try_input(&self, input: &Input, lent: &mut Lent, at_front: bool) -> u64 {
+        let told = (self.reference)(input);
+        self.compare(self.engine, "the archive", input, &told, lent, at_front);
+        if input.closed == 0 {
+            self.compare(self.safe, "the safe function", input, &told, lent, at_front);
+        }
+        told.answer
+    }
+
+    fn compare(&self, engine: Engine, whose: &str, input: &Input, told: &Told, lent: &mut Lent, at_front: bool) {
+        lent.begin(at_front);
+        let answer = engine(input, lent);
+        let difference = lent.difference(&told.written);
+        if answer != told.answer || difference.is_some() {
+            let said = |answer: u64| (answer % 256, answer / 256);
+            panic!(
+                "{}, {whose}: answered {:?}, and {:?} is wanted; {}; for {input:?}, buffers {} a closed page",
+                self.name,
+                said(answer),
+                said(told.answer),
+                difference.unwrap_or_else(|| "every lent byte is right".to_string()),
+                if at_front { "begin at" } else { "end at" },
+            );
+        }
+    }
+}

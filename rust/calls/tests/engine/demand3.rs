@@ -1,0 +1,149 @@
+//! Demand 3's five statements about a set of disks, of which the engine makes four, agree: the set is fatal by two
+//! data words; the verdict call says so; it contains an entry of the engine's list; some lost disk has no entry of the
+//! engine's equations among the survivors; the rebuilder says 11.
+
+use bridgecrumb::Error;
+use calls::cards::{card_of_size, every_card};
+use calls::choice::Choice;
+use calls::reference::{code, quick, strips, Code};
+use std::time::Instant;
+
+/// What the engine lists for a card.
+struct Lists {
+    erasures: Vec<u32>,
+    /// For each disk.
+    equations: Vec<Vec<u32>>,
+}
+
+impl Lists {
+    fn of(card: &[u8], n: usize) -> Lists {
+        let mut slice = vec![0; 1 << 16];
+        let count = bridgecrumb::minimal_erasures(card, &mut slice).unwrap().count;
+        let erasures = slice[..count].to_vec();
+        let mut equations = Vec::new();
+        for disk in 0..n {
+            let count = bridgecrumb::equations(card, disk, &mut slice).unwrap();
+            equations.push(slice[..count].to_vec());
+        }
+        Lists { erasures, equations }
+    }
+
+    fn contains_listed(&self, set: u32) -> bool {
+        self.erasures.iter().any(|entry| entry & !set == 0)
+    }
+
+    fn some_disk_untold(&self, set: u32) -> bool {
+        let told = |disk: usize| self.equations[disk].iter().any(|equation| equation & set == 0);
+        (0..self.equations.len()).any(|disk| set >> disk & 1 == 1 && !told(disk))
+    }
+}
+
+/// Whether the rebuilder says 11. A stripe that was encoded is restored where it does not; one of any bytes, which may
+/// be of no content, gets 11 all the same where the set is fatal.
+fn rebuilder_says_11(choice: &mut Choice, card: &[u8], code: &Code, set: u32) -> bool {
+    let strip_len = 1 + choice.below(20);
+    let any = choice.bytes(code.n() * strip_len);
+    let encoded = strips::encoded(code, strip_len, &any);
+    let mut stripe = encoded.clone();
+    for disk in (0..code.n()).filter(|disk| set >> disk & 1 == 1) {
+        stripe[disk * strip_len..(disk + 1) * strip_len].copy_from_slice(&any[..strip_len]);
+    }
+    let before = stripe.clone();
+    let answer = bridgecrumb::rebuild(card, strip_len, set, &mut stripe);
+    let mut spoiled = any;
+    let other = bridgecrumb::rebuild(card, strip_len, set, &mut spoiled);
+    assert_eq!(answer == Err(Error::Fatal), other == Err(Error::Fatal), "{card:?}, set {set:#x}");
+    match answer {
+        Ok(count) => {
+            assert_eq!(count, set.count_ones() as usize, "{card:?}, set {set:#x}");
+            assert_eq!(stripe, encoded, "{card:?}, set {set:#x}");
+        }
+        Err(error) => {
+            assert_eq!(error, Error::Fatal, "{card:?}, set {set:#x}");
+            assert_eq!(stripe, before, "{card:?}, set {set:#x}");
+        }
+    }
+    answer.is_err()
+}
+
+/// The five statements; answers whether the set is fatal.
+fn five_statements(choice: &mut Choice, card: &[u8], code: &Code, lists: &Lists, set: u32) -> bool {
+    let fatal = quick::fatal_by_two_words(code, set);
+    let statements = [
+        fatal,
+        bridgecrumb::is_fatal(card, set).unwrap(),
+        lists.contains_listed(set),
+        lists.some_disk_untold(set),
+        rebuilder_says_11(choice, card, code, set),
+    ];
+    assert_eq!(statements, [fatal; 5], "{card:?}, set {set:#x}");
+    fatal
+}
+
+/// Sets at which a verdict is likely to turn: entries of the list, those short of a disk or with one more, equations
+/// with their disk, unions, and any set.
+fn any_set(choice: &mut Choice, code: &Code, lists: &Lists) -> u32 {
+    let n = code.n();
+    let disk = choice.below(n);
+    let entry = choice.pick(&lists.erasures);
+    match choice.below(8) {
+        0 => entry,
+        1 | 2 => entry & !(1 << disk),
+        3 => (entry & entry.wrapping_sub(1)) | 1 << disk,
+        4 => entry & !choice.pick(&lists.erasures) | 1 << disk,
+        5 => !lists.equations[disk].first().copied().unwrap_or(0) & code.disks(),
+        _ => {
+            let size = choice.below(code.m + 2).min(n);
+            choice.set(n, size)
+        }
+    }
+}
+
+#[test]
+fn small_cards() {
+    let start = Instant::now();
+    let mut choice = Choice::named("demand3, up to 6 disks");
+    let (mut sets, mut fatal) = (0, 0);
+    for n in 2..=6 {
+        for card in every_card(n) {
+            let code = code(&card).unwrap();
+            let lists = Lists::of(&card, n);
+            for set in 0..1 << n {
+                sets += 1;
+                fatal += u64::from(five_statements(&mut choice, &card, &code, &lists, set));
+            }
+        }
+    }
+    let seconds = start.elapsed().as_secs_f64();
+    println!("demand3, up to 6 disks: every card, {sets} sets, {fatal} fatal, in {seconds:.1} s");
+}
+
+fn random_cards(name: &'static str, cards: usize, most: usize, sets_of_card: usize) {
+    let start = Instant::now();
+    let mut choice = Choice::named(name);
+    let (mut sets, mut fatal) = (0, 0);
+    for _ in 0..cards {
+        let (k, m) = (1 + choice.below(most), 1 + choice.below(most));
+        let card = card_of_size(&mut choice, k, m);
+        let code = code(&card).unwrap();
+        let lists = Lists::of(&card, k + m);
+        for _ in 0..sets_of_card {
+            let set = any_set(&mut choice, &code, &lists);
+            sets += 1;
+            fatal += u64::from(five_statements(&mut choice, &card, &code, &lists, set));
+        }
+    }
+    assert!(fatal * 5 > sets && fatal * 5 < sets * 4, "{fatal} of {sets} sets fatal: the choice of sets is poor");
+    let seconds = start.elapsed().as_secs_f64();
+    println!("{name}: {cards} cards, {sets} sets, {fatal} fatal, in {seconds:.1} s");
+}
+
+#[test]
+fn middling_cards() {
+    random_cards("demand3, up to 8 + 8", 15_000, 8, 30);
+}
+
+#[test]
+fn large_cards() {
+    random_cards("demand3, up to 16 + 16", 300, 16, 60);
+}

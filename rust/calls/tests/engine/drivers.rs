@@ -1,0 +1,156 @@
+//! The drivers, each over all rows of the table: chosen arguments, all arguments of small codes, strips of each length, and faults alone and
+//! together. The archive's call and the safe function get the same, their buffers at both kinds of closed pages in turn.
+
+use calls::choice::{seed, Choice};
+use calls::input::Input;
+use calls::lent::Lent;
+use calls::planted;
+use calls::stripes::LONG;
+use calls::table::{Fault, Row};
+use calls::tried::Tried;
+use std::sync::atomic::{AtomicUsize, Ordering};
+use std::thread;
+
+/// Chosen arguments of each call.
+const CHOSEN: usize = 150_000;
+/// All arguments of codes of up to so many disks.
+const DISKS: usize = 7;
+
+/// The choices, buffers and counts of one thread.
+struct Driver {
+    choice: Choice<'static>,
+    lent: Lent,
+    tried: Tried,
+    calls: usize,
+}
+
+impl Driver {
+    fn try_input(&mut self, place: usize, row: &Row, input: &Input) -> u64 {
+        self.calls += 1;
+        let answer = row.try_input(input, &mut self.lent, self.calls % 2 == 0);
+        self.tried.count(place, answer);
+        answer
+    }
+}
+
+/// Takes the rows, the last one first, on two threads.
+fn drive(name: &str, work: impl Fn(&mut Driver, usize, &Row) + Sync) -> Tried {
+    let (rows, taken) = (planted::table(), AtomicUsize::new(0));
+    let worker = || {
+        let mut driver = Driver { choice: Choice::named(name), lent: Lent::new(), tried: Tried::new(name), calls: 0 };
+        while let Some(place) = rows.len().checked_sub(1 + taken.fetch_add(1, Ordering::Relaxed)) {
+            driver.choice = Choice::named(&format!("{name}, {}", rows[place].name));
+            work(&mut driver, place, &rows[place]);
+        }
+        driver.tried
+    };
+    println!("{name}: the seed is {}, and BRIDGECRUMB_SEED names another", seed());
+    let mut tried = Tried::new(name);
+    thread::scope(|scope| {
+        for thread in [scope.spawn(worker), scope.spawn(worker)] {
+            tried.add(thread.join().expect("as the reference has it"));
+        }
+    });
+    tried.print();
+    tried
+}
+
+#[test]
+fn chosen() {
+    drive("chosen arguments", |driver, place, row| {
+        for _ in 0..CHOSEN {
+            driver.choice.rare = driver.choice.one_in(500);
+            let input = (row.any)(&mut driver.choice);
+            if driver.choice.rare || !(row.heavy)(&input) {
+                driver.try_input(place, row, &input);
+            }
+        }
+        driver.tried.every_refusal(place, row);
+    });
+}
+
+#[test]
+fn strip_lengths() {
+    drive("strips of each length up to 600, and long ones", |driver, place, row| {
+        for strip_len in (1..=600).chain(LONG) {
+            for _ in 0..8 {
+                driver.choice.rare = driver.choice.one_in(40);
+                driver.choice.strip_len = Some(strip_len);
+                let input = (row.any)(&mut driver.choice);
+                if input.strip_len > 0 || !input.file.is_empty() {
+                    driver.try_input(place, row, &input);
+                }
+            }
+        }
+    });
+}
+
+#[test]
+fn small_codes() {
+    drive("all arguments of small codes", |driver, place, row| {
+        for n in 0..=DISKS {
+            let mut choice = Choice::named(row.name);
+            (row.every)(n, &mut choice, &mut |input| {
+                driver.try_input(place, row, input);
+            });
+        }
+    });
+}
+
+/// The good arguments with these faults, the last in the documents' order put in first.
+fn spoiled(row: &Row, faults: &[&Fault]) -> Input {
+    let mut input = (row.good)();
+    faults.iter().rev().for_each(|fault| (fault.spoil)(&mut input));
+    input
+}
+
+impl Driver {
+    /// The first fault is answered, whatever follows.
+    fn try_faults(&mut self, place: usize, row: &Row, faults: &[&Fault]) {
+        let answer = self.try_input(place, row, &spoiled(row, faults));
+        if let (Some(first), false) = (faults.first(), faults.len() > 1 && faults.iter().any(|fault| fault.alone)) {
+            assert_eq!(answer, first.answer, "{}: the reference's answer to {:?}", row.name, spoiled(row, faults));
+        }
+    }
+
+    /// One way or none to each of these refusals, beside those that were taken.
+    fn every_choice<'a>(&mut self, place: usize, row: &Row, taken: &mut Vec<&'a Fault>, stages: &[&'a [Fault]]) {
+        match stages.split_first() {
+            None => self.try_faults(place, row, taken),
+            Some((stage, later)) => {
+                self.every_choice(place, row, taken, later);
+                for fault in stage.iter() {
+                    taken.push(fault);
+                    self.every_choice(place, row, taken, later);
+                    taken.pop();
+                }
+            }
+        }
+    }
+
+    fn every_two(&mut self, place: usize, row: &Row, stages: &[Vec<Fault>]) {
+        for (at, stage) in stages.iter().enumerate() {
+            for first in stage {
+                self.try_faults(place, row, &[first]);
+                for second in stages[at + 1..].iter().flatten() {
+                    self.try_faults(place, row, &[first, second]);
+                }
+            }
+        }
+    }
+}
+
+#[test]
+fn faults() {
+    drive("each fault with each other", |driver, place, row| {
+        let stages = (row.faults)();
+        let good = driver.try_input(place, row, &(row.good)());
+        assert_eq!(good % 256, 0, "{}: its good arguments are refused", row.name);
+        driver.every_two(place, row, &stages);
+        // where all ways are too many, the first to each refusal
+        let many = stages.iter().map(|stage| stage.len() + 1).product::<usize>() > 400_000;
+        let stages: Vec<&[Fault]> = stages.iter().map(|stage| &stage[..if many { 1 } else { stage.len() }]).collect();
+        driver.every_choice(place, row, &mut Vec::new(), &stages);
+        driver.tried.every_refusal(place, row);
+    });
+}

@@ -1,0 +1,7 @@
+//! Every call of the table beside its reference, and what the documents say of single codes.
+
+mod demand3;
+mod drivers;
+mod methods;
+mod round_trips;
+mod worked;
