@@ -1,5 +1,5 @@
 #!/usr/bin/env python3
-"""The listing of a card by brute force, straight from document 01's definitions.
+"""The listing of a card and the equations of a disk by brute force, straight from document 01's definitions.
 
 It shares nothing with the engine: sets are tried one by one, and two data words are compared disk by disk. It is meant for
 codes of some 12 disks at the most.
@@ -58,6 +58,20 @@ def minimal_erasures(k, cols):
     all_fatal = {s for s in range(2**n) if fatal(k, cols, s)}
     minimal = [s for s in all_fatal if not any(r != s and r & s == r for r in all_fatal)]
     return sorted(minimal, key=lambda s: (bin(s).count("1"), s % 2**k))
+
+
+def is_equation(k, cols, disk, told_by):
+    """The disk is not in the set, and for every data word holds the XOR of what the set's disks hold."""
+    if told_by >> disk & 1:
+        return False
+    among = [i for i in range(k + len(cols)) if told_by >> i & 1]
+    return all(sum(holds(k, cols, x, i) for i in among) % 2 == holds(k, cols, x, disk) for x in range(2**k))
+
+
+def equations(k, cols, disk):
+    every = [e for e in range(2 ** (k + len(cols))) if is_equation(k, cols, disk, e)]
+    least = [e for e in every if not any(f != e and f & e == f for f in every)]
+    return sorted(least, key=lambda e: (bin(e).count("1"), e))
 
 
 def listing(card):
