@@ -215,9 +215,3 @@ impl Lent {
         None
     }
 }
-
-impl Default for Lent {
-    fn default() -> Lent {
-        Lent::new()
-    }
-}

@@ -145,16 +145,18 @@ const PLANTED: [Planted; 33] = [
     }),
     // the last strip is one byte too short
     Archive("record_body", |input, lent| after(records::BODY.engine, input, lent, 0, |lent| {
-        if input.disk == 6 {
-            lent.written(0)[8] -= 1;
+        let place = lent.written(0);
+        let end = u64::from(place[0]) + u64::from(place[8]);
+        if input.disk == 6 && end % 256 == input.file.len() as u64 % 256 {
+            place[8] = place[8].wrapping_sub(1);
         }
     })),
     // another number
     Safe("encode", |input, lent| instead(strips::ENCODE.safe, input, lent, 6, |_| true, 7)),
     // a refusal writes
     Safe("rebuild", |input, lent| after(strips::REBUILD.safe, input, lent, 11, |lent| lent.written(0)[0] ^= 1)),
-    // a byte past the strip's end
-    Safe("record_body", |input, lent| after(records::BODY.safe, input, lent, 0, |lent| lent.written(0)[8] += 1)),
+    // a byte more or less than the strip has
+    Safe("record_body", |input, lent| after(records::BODY.safe, input, lent, 0, |lent| lent.written(0)[8] ^= 1)),
     // the last entry is missing
     Safe("list", |input, lent| match (sets::LIST.safe)(input, lent) {
         answer if answer % 256 == 0 => answer - 256,
@@ -195,9 +197,11 @@ fn instead(
 }
 
 fn last_wrong_column(input: &Input, answer: u64) -> u64 {
-    let zero = |j: &u64| input.card[2 + 2 * *j as usize..][..2] == [0, 0];
-    let last = (answer / 256..input.card.get(1).copied().unwrap_or(0).into()).filter(zero).last();
-    last.filter(|_| answer % 256 == 5).map_or(answer, |j| 5 + 256 * j)
+    let columns = input.card.get(2..).unwrap_or(&[]).chunks(2);
+    match columns.clone().rposition(|column| column == [0, 0]) {
+        Some(last) if answer % 256 == 5 => 5 + 256 * (last as u64),
+        _ => answer,
+    }
 }
 
 /// How many minimal erasures a card has.

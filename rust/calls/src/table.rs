@@ -69,12 +69,13 @@ impl Row {
         if answer != told.answer || difference.is_some() {
             let said = |answer: u64| (answer % 256, answer / 256);
             panic!(
-                "{}, {whose}: answered {:?}, and {:?} is wanted; {}; for {input:?}, buffers {} a closed page",
+                "{}, {whose}: answered {:?}, and {:?} is wanted; {}; buffers {} a closed page; for {:.2000}",
                 self.name,
                 said(answer),
                 said(told.answer),
                 difference.unwrap_or_else(|| "every lent byte is right".to_string()),
                 if at_front { "begin at" } else { "end at" },
+                format!("{input:?}"),
             );
         }
     }
