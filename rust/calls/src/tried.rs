@@ -37,12 +37,14 @@ impl Tried {
         assert_eq!(met, numbers, "{}: {} expected these refusals of it", row.name, self.name);
     }
 
+    /// All in one piece, so that what other threads print stays apart.
     pub fn print(&self) {
         let all: u64 = self.numbers.iter().flat_map(BTreeMap::values).sum();
-        println!("{}: {all} calls in {:.1} s", self.name, self.start.elapsed().as_secs_f64());
+        let mut text = format!("{}: {all} calls in {:.1} s", self.name, self.start.elapsed().as_secs_f64());
         for (row, numbers) in TABLE.iter().zip(&self.numbers).filter(|(_, numbers)| !numbers.is_empty()) {
             let each: Vec<String> = numbers.iter().map(|(number, times)| format!("{number}: {times}")).collect();
-            println!("    {} {} calls; {}", row.name, numbers.values().sum::<u64>(), each.join(", "));
+            text += &format!("\n    {} {} calls; {}", row.name, numbers.values().sum::<u64>(), each.join(", "));
         }
+        println!("{text}");
     }
 }

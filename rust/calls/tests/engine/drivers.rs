@@ -57,7 +57,7 @@ fn drive(name: &str, work: impl Fn(&mut Driver, usize, &Row) + Sync) -> Tried {
 
 #[test]
 fn chosen() {
-    drive("chosen arguments", |driver, place, row| {
+    drive("chosen", |driver, place, row| {
         for _ in 0..CHOSEN {
             driver.choice.rare = driver.choice.one_in(500);
             let input = (row.any)(&mut driver.choice);
@@ -71,7 +71,7 @@ fn chosen() {
 
 #[test]
 fn strip_lengths() {
-    drive("strips of each length up to 600, and long ones", |driver, place, row| {
+    drive("each strip length", |driver, place, row| {
         for strip_len in (1..=600).chain(LONG) {
             for _ in 0..8 {
                 driver.choice.rare = driver.choice.one_in(40);
@@ -87,7 +87,7 @@ fn strip_lengths() {
 
 #[test]
 fn small_codes() {
-    drive("all arguments of small codes", |driver, place, row| {
+    drive("small codes", |driver, place, row| {
         for n in 0..=DISKS {
             let mut choice = Choice::named(row.name);
             (row.every)(n, &mut choice, &mut |input| {
@@ -142,7 +142,7 @@ impl Driver {
 
 #[test]
 fn faults() {
-    drive("each fault with each other", |driver, place, row| {
+    drive("faults", |driver, place, row| {
         let stages = (row.faults)();
         let good = driver.try_input(place, row, &(row.good)());
         assert_eq!(good % 256, 0, "{}: its good arguments are refused", row.name);
