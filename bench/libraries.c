@@ -118,7 +118,8 @@ static void open_api(const struct job *job)
 {
     struct ec_args arguments = {.k = 10, .m = 5, .hd = 3, .ct = CHKSUM_NONE};
     instance = liberasurecode_instance_create(EC_BACKEND_FLAT_XOR_HD, &arguments);
-    if (instance <= 0 || liberasurecode_encode(instance, (char *)job->stripe, 10 * job->strip_len, &data_fragments, &parity_fragments, &fragment_len) != 0)
+    if (instance <= 0
+        || liberasurecode_encode(instance, (char *)job->stripe, 10 * job->strip_len, &data_fragments, &parity_fragments, &fragment_len) != 0)
         stop("liberasurecode's API does not start");
     if (fragment_len != sizeof(fragment_header_t) + job->strip_len)
         stop("liberasurecode's fragments have another length");
@@ -139,7 +140,8 @@ void libraries_open(const struct job *job, int own)
 
 void libraries_close(void)
 {
-    if (instance > 0 && (liberasurecode_encode_cleanup(instance, data_fragments, parity_fragments) != 0 || liberasurecode_instance_destroy(instance) != 0))
+    if (instance > 0
+        && (liberasurecode_encode_cleanup(instance, data_fragments, parity_fragments) != 0 || liberasurecode_instance_destroy(instance) != 0))
         stop("liberasurecode's API does not end");
 }
 

@@ -213,8 +213,8 @@ static size_t stack_of(void *(*call)(void *), const uint8_t *card)
     size_t used = 0;
     stack_card = card;
     memset(stack, 0xa5, sizeof stack);
-    if (pthread_attr_init(&attributes) || pthread_attr_setstack(&attributes, stack, sizeof stack)
-        || pthread_create(&thread, &attributes, call, &used) || pthread_join(thread, NULL))
+    if (pthread_attr_init(&attributes) || pthread_attr_setstack(&attributes, stack, sizeof stack) || pthread_create(&thread, &attributes, call, &used)
+        || pthread_join(thread, NULL))
         stop("no thread");
     pthread_attr_destroy(&attributes);
     return used;

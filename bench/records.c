@@ -194,7 +194,8 @@ void bench_records(void)
         for (int l = 0; l < 3; l++)
             for (uint32_t lost = 0; lost <= 5; lost += 5)
                 least[l] = least_of(least[l], write_row(&jobs[c], strip_lens[l], lost));
-    printf("%-24s %3s %3s %10s %10s %8s %10s %10s %8s\n", "read record, lost", "k", "m", "read ns, 1", "65536", "ratio", "body ns, 1", "65536", "ratio");
+    printf("%-24s %3s %3s %10s %10s %8s %10s %10s %8s\n", "read record, lost", "k", "m", "read ns, 1", "65536", "ratio", "body ns, 1", "65536",
+           "ratio");
     for (int c = 0; c < 3; c++)
         for (uint32_t lost = 0; lost <= 5; lost += 5) {
             double ratio = read_row(&jobs[c], lost);

@@ -24,7 +24,7 @@
 extern "C" {
 #endif
 
-#define BRIDGECRUMB_NUMBER(answer) ((unsigned)((answer) & 255))
+#define BRIDGECRUMB_NUMBER(answer) ((unsigned)(255 & (answer)))
 #define BRIDGECRUMB_VALUE(answer) ((answer) >> 8)
 
 enum bridgecrumb_number {
@@ -91,7 +91,8 @@ uint64_t bridgecrumb_rebuild(const uint8_t *card, size_t card_len, size_t strip_
 /* Takes a card, a set of lost disks, a stripe and an output.
  * Writes the record at the output's front and leaves the rest; the value is the record's length.
  * Refuses 1 to 5, then 6, 8, 7, 16. */
-uint64_t bridgecrumb_record_write(const uint8_t *card, size_t card_len, size_t strip_len, uint32_t lost, const uint8_t *stripe, size_t stripe_len, uint8_t *out, size_t out_len);
+uint64_t bridgecrumb_record_write(const uint8_t *card, size_t card_len, size_t strip_len, uint32_t lost, const uint8_t *stripe, size_t stripe_len,
+                                  uint8_t *out, size_t out_len);
 
 /* Takes a record file. Answers k, m, the strips' length and the lost set in `fields`, and the m columns,
  * then zeros, in `columns`. No value where it is accepted.
