@@ -5,9 +5,9 @@
 #include <pthread.h>
 #include <string.h>
 
-#include "../tests/chance.h"
 #include "bench.h"
 #include "bridgecrumb.h"
+#include "chance.h"
 #include "peer.h"
 
 #define BEST_OF 40

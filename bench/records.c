@@ -6,9 +6,9 @@
  */
 #include <string.h>
 
-#include "../tests/chance.h"
 #include "bench.h"
 #include "bridgecrumb.h"
+#include "chance.h"
 #include "job.h"
 
 #define ROUNDS 60

@@ -5,9 +5,9 @@
  */
 #include <string.h>
 
-#include "../tests/chance.h"
 #include "bench.h"
 #include "bridgecrumb.h"
+#include "chance.h"
 #include "libraries.h"
 #include "plain.h"
 

@@ -81,10 +81,10 @@ static void sets(void)
     TRY(0, 14, list(c1, 8, lent.slice, 14, lent.numbers));
     TRY(1, 0, list(NULL, 0, NULL, 0, lent.numbers));
     TRY(10, 14, list(c1, 8, NULL, 0, lent.numbers));
-    TRY(10, 2, list(c3, 6, lent.slice, 1, lent.numbers));  /* C12 */
-    TRY(10, 1, list(c4, 6, NULL, 0, lent.numbers));        /* every code has an entry */
+    TRY(10, 2, list(c3, 6, lent.slice, 1, lent.numbers)); /* C12 */
+    TRY(10, 1, list(c4, 6, NULL, 0, lent.numbers));       /* every code has an entry */
     TRY(0, 4, equations(c1, 8, 0, lent.slice, 4));
-    TRY(0, 0, equations(c6, 4, 1, NULL, 0));               /* a disk in no column has none */
+    TRY(0, 0, equations(c6, 4, 1, NULL, 0)); /* a disk in no column has none */
     TRY(1, 0, equations(NULL, 0, SIZE_MAX, NULL, 0));
     TRY(9, 0, equations(c1, 8, 7, NULL, 0));
     TRY(9, 0, equations(c1, 8, (size_t)1 << 32, lent.slice, 4));
@@ -95,20 +95,20 @@ static void stripes(void)
 {
     TRY(0, 0, encode(c1, 8, 1, lent.stripe, 7));
     TRY(1, 0, encode(NULL, 0, 0, NULL, 0));
-    TRY(6, 0, encode(c1, 8, 0, NULL, 0));                              /* L = 0 fits the null stripe, and is refused */
-    TRY(6, 0, encode(c3, 6, ((size_t)1 << 62) + 1, lent.stripe, 4));   /* four times L is 4 in 64 bits */
+    TRY(6, 0, encode(c1, 8, 0, NULL, 0));                            /* L = 0 fits the null stripe, and is refused */
+    TRY(6, 0, encode(c3, 6, ((size_t)1 << 62) + 1, lent.stripe, 4)); /* four times L is 4 in 64 bits */
     TRY(7, 0, encode(c1, 8, 1, NULL, 0));
     TRY(7, 0, encode(c1, 8, 65536, lent.stripe, 7));
     TRY(0, 3, rebuild(c1, 8, 1, 7, lent.stripe, 7));
-    TRY(0, 0, rebuild(c1, 8, 1, 0, lent.stripe, 7));                   /* nothing lost: a check */
+    TRY(0, 0, rebuild(c1, 8, 1, 0, lent.stripe, 7)); /* nothing lost: a check */
     TRY(1, 0, rebuild(NULL, 0, 0, 0xffffffff, NULL, 0));
     TRY(6, 0, rebuild(c1, 8, SIZE_MAX, 0xffffffff, NULL, 0));
     TRY(8, 0, rebuild(c1, 8, 1, 0x80, NULL, 0));
     TRY(7, 0, rebuild(c1, 8, 1, 14, NULL, 0));
     TRY(7, 0, rebuild(c1, 8, 1, 14, lent.stripe, 8));
-    TRY(11, 0, rebuild(c1, 8, 1, 14, lent.stripe, 7));                 /* C10 */
+    TRY(11, 0, rebuild(c1, 8, 1, 14, lent.stripe, 7)); /* C10 */
     TRY(11, 0, rebuild(c3, 6, 1, 15, lent.stripe, 4));
-    TRY(12, 0, rebuild(c3, 6, 1, 1, lent.stripe, 4));                  /* disk 1 and its mirror differ */
+    TRY(12, 0, rebuild(c3, 6, 1, 1, lent.stripe, 4)); /* disk 1 and its mirror differ */
 }
 
 static void records(void)
