@@ -84,24 +84,20 @@ impl Room {
         unsafe { slice::from_raw_parts(self.at, self.content.len()) }
     }
 
-    /// Where it differs from this front and the content behind it: the place, what stands there, and what is wanted.
+    /// What is wrong where this front and the content behind it should stand.
     fn difference(&self, front: &[u8], at_front: bool) -> Option<String> {
         // SAFETY: the guard lies in the room's open pages
         let guard = unsafe { slice::from_raw_parts(self.guard(at_front), GUARD) };
         if guard != [GUARDING; GUARD] {
-            return Some("a byte beside what is lent has changed".to_string());
+            return Some("a byte beside it has changed".to_string());
         }
-        let now = self.now();
-        if front.len() > now.len() {
-            return Some(format!("{} bytes are to be written into {}", front.len(), now.len()));
-        }
-        let behind = &self.content[front.len()..];
+        let (now, behind) = (self.now(), &self.content[front.len()..]);
         if now[..front.len()] == *front && now[front.len()..] == *behind {
             return None;
         }
-        let at = now.iter().zip(front.iter().chain(behind)).position(|(one, other)| one != other)?;
-        let wanted = if at < front.len() { front[at] } else { self.content[at] };
-        Some(format!("byte {at} of {} is {}, and {wanted} is wanted", now.len(), now[at]))
+        let mut places = now.iter().zip(front.iter().chain(behind)).enumerate();
+        let (at, (is, wanted)) = places.find(|(_, (is, wanted))| is != wanted)?;
+        Some(format!("byte {at} of {} is {is}, and {wanted} is wanted", now.len()))
     }
 }
 
@@ -193,13 +189,6 @@ impl Lent {
     /// The n-th buffer that is only read.
     pub fn read_again(&self, n: usize) -> &[u8] {
         self.rooms[..self.used].iter().filter(|room| !room.may_be_written).nth(n).expect("such a buffer").now()
-    }
-
-    /// The n-th buffer that may be written gets back, from this byte on, what it was lent with.
-    pub fn restore(&mut self, n: usize, from: usize) {
-        let room = self.rooms[..self.used].iter().filter(|room| room.may_be_written).nth(n).expect("such a buffer");
-        let content = room.content[from..].to_vec();
-        self.written(n)[from..].copy_from_slice(&content);
     }
 
     /// Where a lent byte is not as it should be: those at the fronts of what may be written as told, all others as they were.

@@ -1,7 +1,7 @@
 //! Faults planted between the drivers and the engine, to see that they are found: BRIDGECRUMB_FAULT names one of them by its number, from 1.
 //! Without it nothing stands between them.
 
-use crate::input::Input;
+use crate::input::{bytes_of, Input};
 use crate::lent::Lent;
 use crate::rows::{cards, records, sets, strips};
 use crate::table::{Engine, Row, TABLE};
@@ -33,167 +33,153 @@ pub fn table() -> [Row; TABLE.len()] {
     table
 }
 
-/// Each in two lines: what is wrong, and how.
+/// Each under a line that says what is wrong.
 #[rustfmt::skip]
 const PLANTED: [Planted; 33] = [
     // the last wrong column instead of the first
     Archive("card_read", |input, lent| last_wrong_column(input, (cards::READ.engine)(input, lent))),
     // a refusal writes k
-    Archive("card_read", |input, lent| after(cards::READ.engine, input, lent, 4, |lent| lent.written(0)[0] = 9)),
+    Archive("card_read", |input, lent| after(cards::READ.engine, input, lent, 4, |lent, _| lent.written(0)[0] = 9)),
     // 7 before 5
-    Archive("card_write", |input, lent| instead(cards::WRITE.engine, input, lent, 5, |input| input.out_len != 2 + 2 * input.m, 7)),
+    Archive("card_write", |input, lent| instead(cards::WRITE.engine, input, lent, 5, input.out_len != 2 + 2 * input.m, 7)),
     // alike where the lists are only equally long
-    Archive("alike", |input, lent| match (cards::ALIKE.engine)(input, lent) {
-        0 if input.card[..2] == input.second[..2] => 256 * u64::from(needed(&input.card) == needed(&input.second)),
-        answer => answer,
-    }),
+    Archive("alike", |input, lent| instead(cards::ALIKE.engine, input, lent, 0, equally_long(input), 256)),
     // the last byte of some lengths is left out
-    Archive("encode", |input, lent| after(strips::ENCODE.engine, input, lent, 0, |lent| {
-        if input.strip_len % 16 == 15 {
-            *lent.written(0).last_mut().unwrap() = *input.stripe.last().unwrap();
-        }
+    Archive("encode", |input, lent| after(strips::ENCODE.engine, input, lent, 0, |lent, _| if input.strip_len % 16 == 15 {
+        *lent.written(0).last_mut().unwrap() = *input.stripe.last().unwrap();
     })),
     // a byte is read behind the stripe
-    Archive("encode", |input, lent| after(strips::ENCODE.engine, input, lent, 0, |lent| touch_behind(lent.written(0)))),
+    Archive("encode", |input, lent| after(strips::ENCODE.engine, input, lent, 0, |lent, _| touch_behind(lent.written(0)))),
     // fatal where more disks are lost than there is parity
-    Archive("verdict", |input, lent| match (sets::VERDICT.engine)(input, lent) {
-        answer if answer % 256 == 0 && input.card[1] == 4 => 256 * u64::from(input.set.count_ones() > 4),
-        answer => answer,
+    Archive("verdict", |input, lent| {
+        instead(sets::VERDICT.engine, input, lent, 0, input.card.get(1) == Some(&4), 256 * u64::from(input.set.count_ones() > 4))
     }),
     // wrong in large codes, for sets of one size
-    Archive("verdict", |input, lent| match (sets::VERDICT.engine)(input, lent) {
-        256 if input.card[0] > 10 && input.set.count_ones() == u32::from(input.card[1]) => 0,
-        answer => answer,
+    Archive("verdict", |input, lent| {
+        let one_size = input.card.get(1).copied().map(u32::from) == Some(input.set.count_ones());
+        instead(sets::VERDICT.engine, input, lent, 0, large(input) && one_size, 0)
     }),
     // an entry is written behind the list
     Archive("list", |input, lent| listed(input, lent, |out, count| if count < out.len() { out[count] = 0 })),
     // a refusal writes the vector
-    Archive("list", |input, lent| after(sets::LIST.engine, input, lent, 10, |lent| lent.written(1)[0] = 0)),
+    Archive("list", |input, lent| after(sets::LIST.engine, input, lent, 10, |lent, _| lent.written(1)[0] = 0)),
     // entries of one size by set number
     Archive("list", |input, lent| listed(input, lent, |out, count| out[..count].sort_by_key(|set| (set.count_ones(), *set)))),
     // an entry that is not minimal in a larger code
     Archive("list", |input, lent| listed(input, lent, |out, count| if count > 20 { out[count - 1] |= 1 })),
-    // the last entry is none in codes of more than 8 disks and 20 entries
-    Archive("list", |input, lent| without_last(sets::LIST.engine, input, lent, 20)),
+    // the last entry is none, in codes of more than 8 disks and 20 entries
+    Archive("list", |input, lent| one_less(sets::LIST.engine, input, lent, 20, 8)),
     // disk n is accepted
-    Archive("equations", |input, lent| {
-        let last = |input: &Input| input.disk == usize::from(input.card[0] + input.card[1]);
-        instead(sets::EQUATIONS.engine, input, lent, 9, last, 0)
-    }),
+    Archive("equations", |input, lent| instead(sets::EQUATIONS.engine, input, lent, 9, input.disk == disks(input), 0)),
     // the last entry is not counted
-    Archive("equations", |input, lent| match (sets::EQUATIONS.engine)(input, lent) {
-        answer if answer % 256 == 0 && answer > 256 * 3 => answer - 256,
-        answer => answer,
-    }),
-    // the last entry is none in codes of more than 8 disks and 10 entries
-    Archive("equations", |input, lent| without_last(sets::EQUATIONS.engine, input, lent, 10)),
+    Archive("equations", |input, lent| one_less(sets::EQUATIONS.engine, input, lent, 3, 0)),
+    // the last entry is none, in codes of more than 8 disks and 10 entries
+    Archive("equations", |input, lent| one_less(sets::EQUATIONS.engine, input, lent, 10, 8)),
     // a refusal writes
-    Archive("rebuild", |input, lent| after(strips::REBUILD.engine, input, lent, 12, |lent| lent.written(0)[0] ^= (input.set & 1) as u8)),
+    Archive("rebuild", |input, lent| after(strips::REBUILD.engine, input, lent, 12, |lent, _| lent.written(0)[0] ^= (input.set & 1) as u8)),
     // the last lost strip is not restored
-    Archive("rebuild", |input, lent| after(strips::REBUILD.engine, input, lent, 0, |lent| {
-        if input.set.count_ones() == 3 {
-            lent.written(0)[(31 - input.set.leading_zeros() as usize) * input.strip_len] ^= 1;
-        }
+    Archive("rebuild", |input, lent| after(strips::REBUILD.engine, input, lent, 0, |lent, restored| if restored == 3 {
+        lent.written(0)[(31 - input.set.leading_zeros() as usize) * input.strip_len] ^= 1;
     })),
     // 7 before 8
     Archive("rebuild", |input, lent| {
-        let other_len = |input: &Input| input.stripe.len() != input.strip_len * usize::from(input.card[0] + input.card[1]);
+        let other_len = Some(input.stripe.len()) != input.strip_len.checked_mul(disks(input));
         instead(strips::REBUILD.engine, input, lent, 8, other_len, 7)
     }),
     // accepted in a large code, and no content agrees
     Archive("rebuild", |input, lent| {
-        instead(strips::REBUILD.engine, input, lent, 12, |input| input.card[0] > 10, 256 * u64::from(input.set.count_ones()))
+        instead(strips::REBUILD.engine, input, lent, 12, large(input), 256 * u64::from(input.set.count_ones()))
     }),
     // a byte is written behind the record
-    Archive("record_write", |input, lent| match (records::WRITE.engine)(input, lent) {
-        answer if answer % 256 == 0 && input.out_len > answer as usize / 256 => {
-            lent.written(0)[answer as usize / 256] = 0;
-            answer
-        }
-        answer => answer,
-    }),
+    Archive("record_write", |input, lent| after(records::WRITE.engine, input, lent, 0, |lent, len| if len < input.out_len {
+        lent.written(0)[len] = 0;
+    })),
     // disk 31's lost strip has an offset
-    Archive("record_write", |input, lent| after(records::WRITE.engine, input, lent, 0, |lent| {
-        if input.set >> 31 == 1 {
-            lent.written(0)[10 + 10 * 32 + 2] = 1;
-        }
+    Archive("record_write", |input, lent| after(records::WRITE.engine, input, lent, 0, |lent, _| if input.set >> 31 == 1 {
+        lent.written(0)[10 + 10 * 32 + 2] = 1;
     })),
     // E against n before the columns
-    Archive("record_read", |input, lent| {
-        let card = |input: &Input| 10 + 10 * usize::from(input.file[8]);
-        let other_count = |input: &Input| input.file[8] != input.file[card(input)] + input.file[card(input) + 1] + 1;
-        instead(records::READ.engine, input, lent, 5, other_count, 14)
-    }),
+    Archive("record_read", |input, lent| instead(records::READ.engine, input, lent, 5, other_count(&input.file), 14)),
     // a lost strip's offset is not looked at
     Archive("record_read", |input, lent| match (records::READ.engine)(input, lent) {
         14 => {
-            let mut other = input.clone();
-            let entries = 10 + 10 * usize::from(input.file[8]);
-            for at in (20..entries.min(input.file.len().saturating_sub(10))).step_by(10).filter(|&at| input.file[at] == 2) {
-                other.file[at + 2..at + 6].fill(0);
-            }
             lent.begin(false);
-            (records::READ.engine)(&other, lent)
+            (records::READ.engine)(&without_offsets(input), lent)
         }
         answer => answer,
     }),
     // a byte is read behind the file
-    Archive("record_read", |input, lent| after(records::READ.engine, input, lent, 15, |lent| touch_behind(lent.read_again(0)))),
+    Archive("record_read", |input, lent| after(records::READ.engine, input, lent, 15, |lent, _| touch_behind(lent.read_again(0)))),
     // the disk is cut to 32 bits
     Archive("record_body", |input, lent| {
         (records::BODY.engine)(&Input { disk: input.disk & 0xffff_ffff, ..input.clone() }, lent)
     }),
     // the last strip is one byte too short
-    Archive("record_body", |input, lent| after(records::BODY.engine, input, lent, 0, |lent| {
+    Archive("record_body", |input, lent| after(records::BODY.engine, input, lent, 0, |lent, _| {
         let place = lent.written(0);
-        let end = u64::from(place[0]) + u64::from(place[8]);
-        if input.disk == 6 && end % 256 == input.file.len() as u64 % 256 {
+        if input.disk == 6 && place[0].wrapping_add(place[8]) == input.file.len() as u8 {
             place[8] = place[8].wrapping_sub(1);
         }
     })),
     // another number
-    Safe("encode", |input, lent| instead(strips::ENCODE.safe, input, lent, 6, |_| true, 7)),
+    Safe("encode", |input, lent| instead(strips::ENCODE.safe, input, lent, 6, true, 7)),
     // a refusal writes
-    Safe("rebuild", |input, lent| after(strips::REBUILD.safe, input, lent, 11, |lent| lent.written(0)[0] ^= 1)),
+    Safe("rebuild", |input, lent| after(strips::REBUILD.safe, input, lent, 11, |lent, _| lent.written(0)[0] ^= 1)),
     // a byte more or less than the strip has
-    Safe("record_body", |input, lent| after(records::BODY.safe, input, lent, 0, |lent| lent.written(0)[8] ^= 1)),
+    Safe("record_body", |input, lent| after(records::BODY.safe, input, lent, 0, |lent, _| lent.written(0)[8] ^= 1)),
     // the last entry is missing
-    Safe("list", |input, lent| match (sets::LIST.safe)(input, lent) {
-        answer if answer % 256 == 0 => answer - 256,
-        answer => answer,
-    }),
+    Safe("list", |input, lent| one_less(sets::LIST.safe, input, lent, 0, 0)),
     // the lost set is cut to 16 bits
-    Safe("record_read", |input, lent| after(records::READ.safe, input, lent, 0, |lent| lent.written(0)[26..28].fill(0))),
+    Safe("record_read", |input, lent| after(records::READ.safe, input, lent, 0, |lent, _| lent.written(0)[26..28].fill(0))),
     // the second card's refusal before the first's
     Safe("alike", |input, lent| {
         (cards::ALIKE.safe)(&Input { card: input.second.clone(), second: input.card.clone(), ..Input::default() }, lent)
     }),
 ];
 
-/// The call, and where it answers this number, something more.
-fn after(engine: Engine, input: &Input, lent: &mut Lent, number: u64, more: impl FnOnce(&mut Lent)) -> u64 {
+/// The call, and where it answers this number, something more with its value.
+fn after(engine: Engine, input: &Input, lent: &mut Lent, number: u64, more: impl FnOnce(&mut Lent, usize)) -> u64 {
     let answer = engine(input, lent);
     if answer % 256 == number {
-        more(lent);
+        more(lent, answer as usize / 256);
     }
     answer
 }
 
 /// Another answer than this number for some inputs.
-fn instead(
-    engine: Engine,
-    input: &Input,
-    lent: &mut Lent,
-    number: u64,
-    some: impl Fn(&Input) -> bool,
-    other: u64,
-) -> u64 {
-    let answer = engine(input, lent);
-    if answer % 256 == number && some(input) {
-        other
-    } else {
-        answer
+fn instead(engine: Engine, input: &Input, lent: &mut Lent, number: u64, some: bool, other: u64) -> u64 {
+    match engine(input, lent) {
+        answer if answer % 256 == number && some => other,
+        answer => answer,
     }
+}
+
+/// The count of a list of more than so many entries, in codes of more than so many disks, is one less, also where it is the count needed.
+fn one_less(engine: Engine, input: &Input, lent: &mut Lent, entries: u64, more_than: usize) -> u64 {
+    match engine(input, lent) {
+        answer if [0, 10].contains(&(answer % 256)) && answer / 256 > entries && disks(input) > more_than => {
+            answer - 256
+        }
+        answer => answer,
+    }
+}
+
+/// The lister, and something done to its slice where it is accepted.
+fn listed(input: &Input, lent: &mut Lent, change: impl FnOnce(&mut [u32], usize)) -> u64 {
+    after(sets::LIST.engine, input, lent, 0, |lent, count| {
+        let bytes = lent.written(0);
+        let mut out: Vec<u32> = bytes.chunks(4).map(|four| u32::from_le_bytes(four.try_into().unwrap())).collect();
+        change(&mut out, count);
+        bytes.copy_from_slice(&bytes_of(&out, u32::to_le_bytes));
+    })
+}
+
+fn disks(input: &Input) -> usize {
+    input.card.iter().take(2).map(|&count| usize::from(count)).sum()
+}
+
+fn large(input: &Input) -> bool {
+    matches!(input.card.first(), Some(11..=16))
 }
 
 fn last_wrong_column(input: &Input, answer: u64) -> u64 {
@@ -204,33 +190,26 @@ fn last_wrong_column(input: &Input, answer: u64) -> u64 {
     }
 }
 
-/// How many minimal erasures a card has.
-fn needed(card: &[u8]) -> Option<usize> {
-    bridgecrumb::minimal_erasures(card, &mut []).map_err(|error| error.value()).unwrap_err()
+/// Whether the cards have as many disks and as many minimal erasures.
+fn equally_long(input: &Input) -> bool {
+    let needed = |card: &[u8]| bridgecrumb::minimal_erasures(card, &mut []).map_err(|error| error.value());
+    input.card.get(..2) == input.second.get(..2) && needed(&input.card) == needed(&input.second)
 }
 
-/// The lister, and something done to its slice where it is accepted.
-fn listed(input: &Input, lent: &mut Lent, change: impl FnOnce(&mut [u32], usize)) -> u64 {
-    let answer = (sets::LIST.engine)(input, lent);
-    if answer % 256 == 0 {
-        let bytes = lent.written(0);
-        let mut out: Vec<u32> = bytes.chunks(4).map(|four| u32::from_le_bytes(four.try_into().unwrap())).collect();
-        change(&mut out, answer as usize / 256);
-        bytes.copy_from_slice(&out.iter().flat_map(|set| set.to_le_bytes()).collect::<Vec<u8>>());
-    }
-    answer
+/// Whether a file with a card has another number of entries than the card's disks need.
+fn other_count(file: &[u8]) -> bool {
+    let card = 10 + 10 * usize::from(file.get(8).copied().unwrap_or(0));
+    file.get(card..card + 2).map_or(false, |counts| file[8] != counts[0].wrapping_add(counts[1]).wrapping_add(1))
 }
 
-/// A list in codes of more than 8 disks and of more than so many entries, as if its last entry were none.
-fn without_last(engine: Engine, input: &Input, lent: &mut Lent, many: u64) -> u64 {
-    let answer = engine(input, lent);
-    if answer / 256 <= many || ![0, 10].contains(&(answer % 256)) || input.card[0] + input.card[1] <= 8 {
-        return answer;
+/// The file with 0 for the offset of each lost strip.
+fn without_offsets(input: &Input) -> Input {
+    let mut other = input.clone();
+    let (start, entries) = (other.file.len().min(20), usize::from(input.file[8]).saturating_sub(1));
+    for entry in other.file[start..].chunks_exact_mut(10).take(entries).filter(|entry| entry[0] == 2) {
+        entry[2..6].fill(0);
     }
-    if answer % 256 == 0 {
-        lent.restore(0, 4 * (answer as usize / 256 - 1));
-    }
-    answer - 256
+    other
 }
 
 /// Reads the byte behind a buffer.

@@ -1,6 +1,6 @@
 //! Record files: good ones by the reference, and files damaged in a field or more, cut off, lengthened, or only alike at their beginning.
 
-use crate::cards::{any_card, any_set, c1, card_of, good_card};
+use crate::cards::{any_set, c1, card_of, good_card};
 use crate::choice::Choice;
 use crate::input::Input;
 use crate::reference::{read_card, records};
@@ -29,9 +29,6 @@ pub fn strips_at(file: &[u8]) -> usize {
 /// A good record, damaged or not; where it isn't, its strips may stand on closed pages.
 pub fn any_file(choice: &mut Choice) -> Input {
     let kind = choice.below(16);
-    if kind < 2 {
-        return Input { file: any_string(choice), ..Input::default() };
-    }
     let largest = choice.pick(&[2, 4, 16]);
     let card = good_card(choice, largest);
     let lost = any_set(choice, &card) & (((1u64 << (card[0] + card[1])) - 1) as u32);
@@ -41,12 +38,11 @@ pub fn any_file(choice: &mut Choice) -> Input {
     };
     let mut file = record_of(choice, &card, strip_len, lost);
     let mut closed = 0;
-    if kind < 5 {
-        closed = if kind == 3 { 0 } else { file.len() - strips_at(&file) };
-    } else {
-        for _ in 0..choice.pick(&[1, 1, 2, 2, 3]) {
-            damage(choice, &mut file, strip_len);
-        }
+    match kind {
+        0 | 1 => file = any_string(choice, file),
+        2 | 3 => {}
+        4 => closed = file.len() - strips_at(&file),
+        _ => (0..choice.pick(&[1, 1, 2, 2, 3])).for_each(|_| damage(choice, &mut file, strip_len)),
     }
     Input { file, closed, ..Input::default() }
 }
@@ -117,24 +113,12 @@ fn lose(choice: &mut Choice, file: &mut Vec<u8>, entries: usize) {
     }
 }
 
-/// Bytes that begin as a record does, up to some part of it.
-fn any_string(choice: &mut Choice) -> Vec<u8> {
-    let (len, right) = (choice.below(400), choice.below(6));
-    let (entries, strip_len, card_len) = (3 + choice.below(31), 1 + choice.below(20), choice.below(40));
-    let card = any_card(choice, 16);
-    let mut file = choice.bytes(len.max(400));
-    let card_at = 10 + 10 * entries;
-    let fields = [(0, 4, 0x3143_5846), (4, 4, strip_len), (8, 2, entries), (12, 4, card_at), (16, 4, card_len)];
-    for &(at, width, number) in &fields[..right.min(5)] {
-        put(&mut file, at, width, number as u64);
-    }
-    if right == 5 {
-        file[10..12].fill(0);
-        put(&mut file, 16, 4, card.len() as u64);
-        file.splice(card_at.min(len).., card);
-    }
-    file.truncate(len);
-    file
+/// Bytes that begin as a record does, up to some place.
+fn any_string(choice: &mut Choice, mut record: Vec<u8>) -> Vec<u8> {
+    let (from, len) = (choice.below(record.len()), choice.below(400));
+    record.truncate(from);
+    record.extend(choice.bytes(len));
+    record
 }
 
 /// Good records of small codes that are damaged in every way: of all cards of up to 3 disks with each lost set, and of C1.

@@ -1,6 +1,6 @@
 //! The calls on cards alone.
 
-use super::{card_faults, ways};
+use super::{card_faults, card_then, ways};
 use crate::cards::{any_card, any_columns, c1, card_of, every_card};
 use crate::choice::Choice;
 use crate::input::{bytes_of, code, Input, Told};
@@ -17,7 +17,7 @@ pub const READ: Row = Row {
     any: |choice| of_card(any_card(choice, 16)),
     every: every_read,
     good: || of_card(c1()),
-    faults: || card_faults(|input| &mut input.card),
+    faults: || card_then([]),
     heavy: |_| false,
     engine: |input, lent| {
         let (card, card_len) = lent.read(&input.card);
@@ -150,11 +150,7 @@ pub const ALIKE: Row = Row {
     any: any_two,
     every: every_two,
     good: || Input { card: c1(), second: c1(), ..Input::default() },
-    faults: || {
-        let mut faults = card_faults(|input| &mut input.card);
-        faults.extend(card_faults(|input| &mut input.second));
-        faults
-    },
+    faults: || card_then(card_faults(|input| &mut input.second)),
     heavy: |input| large(&input.card) || large(&input.second),
     engine: |input, lent| {
         let (first, first_len) = lent.read(&input.card);

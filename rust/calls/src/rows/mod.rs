@@ -34,6 +34,11 @@ fn card_faults(card: fn(&mut Input) -> &mut Vec<u8>) -> Vec<Vec<Fault>> {
         .collect()
 }
 
+/// Those of the input's card, then these.
+fn card_then(faults: impl IntoIterator<Item = Vec<Fault>>) -> Vec<Vec<Fault>> {
+    card_faults(|input| &mut input.card).into_iter().chain(faults).collect()
+}
+
 /// Refusal 6. Four or seven times some of these lengths are small in 64 bits.
 fn strip_len_faults() -> Vec<Fault> {
     let wrong =

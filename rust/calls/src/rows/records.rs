@@ -1,7 +1,7 @@
 //! The calls on record files.
 
 use super::strips::{good_stripe, long};
-use super::{card_faults, set_faults, strip_len_faults, stripe_faults, ways};
+use super::{card_then, set_faults, strip_len_faults, stripe_faults, ways};
 use crate::cards::{any_card, any_disk, any_set, disks_of, every_card};
 use crate::choice::Choice;
 use crate::input::{bytes_of, code, Input, Told};
@@ -24,10 +24,8 @@ pub const WRITE: Row = Row {
     every: every_write,
     good: || Input { set: 0x24, out_len: 113, ..good_stripe() },
     faults: || {
-        let mut faults = card_faults(|input| &mut input.card);
         let short = ways(16, vec![112, 98, 97, 0], |input, &len| input.out_len = len);
-        faults.extend([strip_len_faults(), set_faults(), stripe_faults(), short]);
-        faults
+        card_then([strip_len_faults(), set_faults(), stripe_faults(), short])
     },
     heavy: long,
     engine: |input, lent| {
@@ -218,8 +216,5 @@ fn file_faults() -> Vec<Vec<Fault>> {
         input.file.resize(len as usize, 9)
     });
     let card = [card_1, card_2, card_3, card_4, column_0, column_1, column_2];
-    let mut faults = vec![mark, strip_len, count, card_entry];
-    faults.extend(card);
-    faults.extend([disks, entries, end]);
-    faults
+    [mark, strip_len, count, card_entry].into_iter().chain(card).chain([disks, entries, end]).collect()
 }

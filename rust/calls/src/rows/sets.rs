@@ -1,7 +1,7 @@
 //! The calls on sets of disks.
 
 use super::cards::{large, largest};
-use super::{card_faults, set_faults, ways};
+use super::{card_then, set_faults, ways};
 use crate::cards::{any_card, any_disk, any_set, c1, disks_of, every_card};
 use crate::choice::Choice;
 use crate::input::{bytes_of, code, Input, Told};
@@ -17,11 +17,7 @@ pub const VERDICT: Row = Row {
     },
     every: every_verdict,
     good: || Input { card: c1(), set: 14, ..Input::default() },
-    faults: || {
-        let mut faults = card_faults(|input| &mut input.card);
-        faults.push(set_faults());
-        faults
-    },
+    faults: || card_then([set_faults()]),
     heavy: |input| large(&input.card),
     engine: |input, lent| {
         let (card, card_len) = lent.read(&input.card);
@@ -62,11 +58,7 @@ pub const LIST: Row = Row {
         }
     },
     good: || Input { card: c1(), out_len: 14, ..Input::default() },
-    faults: || {
-        let mut faults = card_faults(|input| &mut input.card);
-        faults.push(ways(10 + 256 * 14, vec![0, 1, 13], |input, &len| input.out_len = len));
-        faults
-    },
+    faults: || card_then([ways(10 + 256 * 14, vec![0, 1, 13], |input, &len| input.out_len = len)]),
     heavy: |input| large(&input.card),
     engine: |input, lent| {
         let (card, card_len) = lent.read(&input.card);
@@ -117,11 +109,9 @@ pub const EQUATIONS: Row = Row {
     },
     good: || Input { card: c1(), out_len: 4, ..Input::default() },
     faults: || {
-        let mut faults = card_faults(|input| &mut input.card);
         let wrong = vec![7, 8, 31, 32, 33, 255, 256, 65536, 1 << 32, 1 << 32 | 1, 1 << 63, usize::MAX];
-        faults.push(ways(9, wrong, |input, &disk| input.disk = disk));
-        faults.push(ways(10 + 256 * 4, vec![0, 3], |input, &len| input.out_len = len));
-        faults
+        let short = ways(10 + 256 * 4, vec![0, 3], |input, &len| input.out_len = len);
+        card_then([ways(9, wrong, |input, &disk| input.disk = disk), short])
     },
     heavy: |input| large(&input.card) || many_parities(&input.card),
     engine: |input, lent| {

@@ -1,7 +1,7 @@
 //! The calls on stripes.
 
 use super::cards::{large, largest};
-use super::{card_faults, set_faults, strip_len_faults, stripe_faults, ways};
+use super::{card_then, set_faults, strip_len_faults, stripe_faults, ways};
 use crate::cards::{any_card, any_set, c1, every_card};
 use crate::choice::Choice;
 use crate::input::{code, Input, Told};
@@ -41,11 +41,7 @@ pub const ENCODE: Row = Row {
         }
     },
     good: good_stripe,
-    faults: || {
-        let mut faults = card_faults(|input| &mut input.card);
-        faults.extend([strip_len_faults(), stripe_faults()]);
-        faults
-    },
+    faults: || card_then([strip_len_faults(), stripe_faults()]),
     heavy: long,
     engine: |input, lent| {
         let (card, card_len) = lent.read(&input.card);
@@ -74,11 +70,9 @@ pub const REBUILD: Row = Row {
     every: every_rebuild,
     good: || Input { set: 1, ..good_stripe() },
     faults: || {
-        let mut faults = card_faults(|input| &mut input.card);
         let fatal = ways(11, vec![14, 0x7f], |input, &set| input.set = set);
         let spoiled = ways(12, vec![9, 20], |input, &at: &usize| input.stripe[at] ^= 1);
-        faults.extend([strip_len_faults(), set_faults(), stripe_faults(), fatal, spoiled]);
-        faults
+        card_then([strip_len_faults(), set_faults(), stripe_faults(), fatal, spoiled])
     },
     heavy: |input| large(&input.card) || long(input),
     engine: |input, lent| {

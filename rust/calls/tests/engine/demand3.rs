@@ -3,10 +3,9 @@
 //! engine's equations among the survivors; the rebuilder says 11.
 
 use bridgecrumb::Error;
-use calls::cards::{card_of_size, every_card};
+use calls::cards::{every_card, good_card};
 use calls::choice::Choice;
 use calls::reference::{code, quick, strips, Code};
-use std::time::Instant;
 
 /// What the engine lists for a card.
 struct Lists {
@@ -99,51 +98,40 @@ fn any_set(choice: &mut Choice, code: &Code, lists: &Lists) -> u32 {
     }
 }
 
-#[test]
-fn small_cards() {
-    let start = Instant::now();
-    let mut choice = Choice::named("demand3, up to 6 disks");
-    let (mut sets, mut fatal) = (0, 0);
-    for n in 2..=6 {
-        for card in every_card(n) {
-            let code = code(&card).unwrap();
-            let lists = Lists::of(&card, n);
-            for set in 0..1 << n {
-                sets += 1;
-                fatal += u64::from(five_statements(&mut choice, &card, &code, &lists, set));
-            }
-        }
-    }
-    let seconds = start.elapsed().as_secs_f64();
-    println!("demand3, up to 6 disks: every card, {sets} sets, {fatal} fatal, in {seconds:.1} s");
-}
-
-fn random_cards(name: &'static str, cards: usize, most: usize, sets_of_card: usize) {
-    let start = Instant::now();
+/// The five statements about the sets that are told for each card; prints how many there were.
+fn try_cards(name: &str, cards: &[Vec<u8>], sets_of: impl Fn(&mut Choice, &Code, &Lists) -> Vec<u32>) {
     let mut choice = Choice::named(name);
     let (mut sets, mut fatal) = (0, 0);
-    for _ in 0..cards {
-        let (k, m) = (1 + choice.below(most), 1 + choice.below(most));
-        let card = card_of_size(&mut choice, k, m);
-        let code = code(&card).unwrap();
-        let lists = Lists::of(&card, k + m);
-        for _ in 0..sets_of_card {
-            let set = any_set(&mut choice, &code, &lists);
+    for card in cards {
+        let code = code(card).unwrap();
+        let lists = Lists::of(card, code.n());
+        for set in sets_of(&mut choice, &code, &lists) {
             sets += 1;
-            fatal += u64::from(five_statements(&mut choice, &card, &code, &lists, set));
+            fatal += u64::from(five_statements(&mut choice, card, &code, &lists, set));
         }
     }
     assert!(fatal * 5 > sets && fatal * 5 < sets * 4, "{fatal} of {sets} sets fatal: the choice of sets is poor");
-    let seconds = start.elapsed().as_secs_f64();
-    println!("{name}: {cards} cards, {sets} sets, {fatal} fatal, in {seconds:.1} s");
+    println!("demand3, {name}: {} cards, {sets} sets, {fatal} fatal", cards.len());
+}
+
+#[test]
+fn small_cards() {
+    let cards: Vec<Vec<u8>> = (2..=6).flat_map(every_card).collect();
+    try_cards("up to 6 disks", &cards, |_, code, _| (0..=code.disks()).collect());
+}
+
+fn some_cards(name: &str, cards: usize, largest: usize, sets: usize) {
+    let mut choice = Choice::named(name);
+    let cards: Vec<Vec<u8>> = (0..cards).map(|_| good_card(&mut choice, largest)).collect();
+    try_cards(name, &cards, |choice, code, lists| (0..sets).map(|_| any_set(choice, code, lists)).collect());
 }
 
 #[test]
 fn middling_cards() {
-    random_cards("demand3, up to 8 + 8", 15_000, 8, 30);
+    some_cards("up to 8 + 8", 15_000, 8, 30);
 }
 
 #[test]
 fn large_cards() {
-    random_cards("demand3, up to 16 + 16", 300, 16, 60);
+    some_cards("up to 16 + 16", 300, 16, 60);
 }
