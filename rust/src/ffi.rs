@@ -1,4 +1,5 @@
-//! The archive's calls, as include/bridgecrumb.h declares them: the one module with unsafe code.
+//! The archive's calls, as include/bridgecrumb.h declares them: the one module with unsafe code. The declarations are public for the tests alone, which
+//! lend buffers of their own.
 //!
 //! What the archive asks of its caller holds for every function here, since its slices and arrays are
 //! references. A slice's pointer reaches as many elements as the length beside it says, and an array's as many
