@@ -18,7 +18,7 @@ use Rattle.gf2.proofs.Xor.{⊕-lt, ⊕-zero, zero-⊕}
 use Rattle.gf2.proofs.Sums.{if-has}
 use Rattle.flat.specs.Lists.{setOf, field}
 use Rattle.flat.specs.Cards.{Code, disks, column, columnsIn, codeIn}
-use Rattle.flat.specs.Spans.{row, check}
+use Rattle.flat.specs.Checks.{row, check}
 use Rattle.flat.proofs.Lists.{getD-tabulate}
 use Rattle.flat.proofs.Quantifiers.{set-lt, bit-set, add-power}
 

@@ -11,7 +11,8 @@ use Rattle.gf2.specs.If.{if_then_else_}
 use Rattle.gf2.specs.Sets.{bit}
 use Rattle.flat.specs.Lists.{tabulate}
 use Rattle.flat.specs.Cards.{Code, disks}
-use Rattle.flat.specs.Spans.{row, rows, check, checks}
+use Rattle.flat.specs.Checks.{row, check}
+use Rattle.flat.specs.Spans.{rows, checks}
 use Rattle.flat.proofs.Lists.{length-tabulate, getD-tabulate}
 use Rattle.flat.proofs.Rows.{row-lt, row-data, check-lt, check-parity}
 use Rattle.minimal_words.specs.Systematic.{Systematic}

@@ -6,7 +6,8 @@ ghost use mathlib.Core.Path.{_≡_};
 ghost use Prim.Native.Nat.{_<_};
 ghost use lib.ListN.{take};
 ghost use Rattle.flat.specs.Cards.{codeIn};
-ghost use Rattle.flat.specs.Spans.{row, rows, checks};
+ghost use Rattle.flat.specs.Checks.{row};
+ghost use Rattle.flat.specs.Spans.{rows, checks};
 ghost use Rattle.card.specs.Columns.{Columns};
 use gf2::Basis;
 

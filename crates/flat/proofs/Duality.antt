@@ -19,7 +19,8 @@ use Rattle.flat.specs.Lists.{some, every, setOf, tabulate}
 use Rattle.flat.specs.Cards.{Code, disks}
 use Rattle.flat.specs.Erasures.{holdsBit, agreeOutside, survivors, fatal, undetermined}
 use Rattle.flat.specs.Equations.{equation}
-use Rattle.flat.specs.Spans.{codeword, row, rows}
+use Rattle.flat.specs.Checks.{row}
+use Rattle.flat.specs.Spans.{codeword, rows}
 use Rattle.flat.proofs.Lists.{length-tabulate}
 use Rattle.flat.proofs.Quantifiers.{some-in, some-out, every-in, every-out, set-lt, bit-set, set-in, set-out}
 use Rattle.flat.proofs.Words.{word-⊕, word-zero, codeword-lt, codeword-bit, codeword-zero, codeword-nonzero}

@@ -14,14 +14,15 @@ use Rattle.gf2.specs.If.{if_then_else_}
 use Rattle.gf2.specs.Sets.{bit, has, _⊕_, over}
 use Rattle.gf2.specs.Span.{InSpan, Independent, select}
 use Rattle.gf2.proofs.Tests.{T-ext, ltb-out, eqb-in, eqb-out}
-use Rattle.gf2.proofs.Bits.{bit-of-zero, bit-shift, bit-⊕-bits, ext-below, has-if}
+use Rattle.gf2.proofs.Bits.{bit-of-zero, bit-shift, bit-pow, bit-⊕-bits, ext-below, has-if}
 use Rattle.gf2.proofs.Xor.{⊕-lt, ⊕-self, zero-⊕, ⊕-zero, ⊕-cancel}
 use Rattle.gf2.proofs.Sums.{over-cong, over-⊕, over-none, over-bit, over-lt, over-set, over-only, over-append, over-comm, over-one, over-power, if-has, select-in, in-select}
 use Rattle.flat.specs.Lists.{tabulate}
 use Rattle.flat.specs.Cards.{Code, disks, column}
 use Rattle.flat.specs.Strips.{holds}
 use Rattle.flat.specs.Erasures.{holdsBit}
-use Rattle.flat.specs.Spans.{codeword, row, rows, check, checks}
+use Rattle.flat.specs.Checks.{row, check}
+use Rattle.flat.specs.Spans.{codeword, rows, checks}
 use Rattle.flat.proofs.Lists.{length-tabulate, getD-tabulate}
 use Rattle.flat.proofs.Quantifiers.{set-lt, bit-set, has-set}
 use Rattle.flat.proofs.Words.{holds-data, holds-parity, word-data, codeword-lt, codeword-bit}
@@ -153,6 +154,14 @@ module _ (C : Code) where
       ap (λ (w : ℕ). bit w (C .k + i)) (select-tabulate (C .m) p (check C)) ∙ over-bit (C .m) p (check C) (C .k + i)
       ∙ over-cong (C .m) p (λ j. bit (check C j) (C .k + i)) (λ j. if eqb i j then 1 else 0) (λ j m t. check-parity j i l)
       ∙ over-one (C .m) p i l
+
+  -- a check is a word of their span
+  pub check-word : (j : ℕ) → j < C .m → InSpan (checks C) (check C j)
+  unfolding checks
+  check-word j l =
+      subst (InSpan (checks C))
+      (select-tabulate (C .m) (2 ^ j) (check C) ∙ over-only (C .m) (2 ^ j) j (check C) l (λ i m. has-if (2 ^ j) i (eqb i j) (bit-pow j i)))
+      (select-in (checks C) (2 ^ j))
 
   pub select-checks-lt : (p : ℕ) → select (checks C) p < 2 ^ disks C
   unfolding checks

@@ -6,6 +6,7 @@ pub mod Equations
 pub mod Rebuilding
 pub mod Alike
 pub mod Faults
+pub mod Checks
 pub mod Spans
 pub mod Repairs
 pub mod Theorems

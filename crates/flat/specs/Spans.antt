@@ -2,35 +2,26 @@
 -- Computing code goes by these; nobody has to believe them, since Theorems says what they are and no public contract names them.
 -- Assumes nothing.
 use mathlib.Core.List.{List, map}
-use Prim.Native.Nat.{ℕ, suc, _+_, _-_, _^_}
-use lib.Dec.{eqb, ltb}
+use Prim.Native.Nat.{ℕ, suc, _-_, _^_}
+use lib.Dec.{eqb}
 use lib.ListN.{length}
-use Rattle.gf2.specs.If.{if_then_else_}
 use Rattle.gf2.specs.Sets.{has, size, _∖_}
 use Rattle.gf2.specs.Span.{select}
 use Rattle.gf2.specs.Within.{within}
 use Rattle.flat.specs.Lists.{setOf, range, tabulate, filter, orderedBy}
-use Rattle.flat.specs.Cards.{Code, disks, column}
+use Rattle.flat.specs.Cards.{Code, disks}
 use Rattle.flat.specs.Erasures.{holdsBit}
+use Rattle.flat.specs.Checks.{row, check}
 
 -- the codeword of a data word: the disks that hold 1
 unfoldable pub codeword : Code → ℕ → ℕ
 unfolding setOf disks holdsBit
 codeword C x = setOf (disks C) (λ i. eqb (holdsBit C x i) 1)
 
--- row i: data disk i with the parity disks whose column names it
-unfoldable pub row : Code → ℕ → ℕ
-unfolding setOf disks has column
-row C i = setOf (disks C) (λ d. if ltb d (C .k) then eqb d i else has (column C (d - C .k)) i)
-
+-- the rows, and the checks
 unfoldable pub rows : Code → List ℕ
 unfolding tabulate row
 rows C = tabulate (C .k) (row C)
-
--- check j: parity disk k + j with its data disks
-unfoldable pub check : Code → ℕ → ℕ
-unfolding setOf disks has column
-check C j = setOf (disks C) (λ d. if ltb d (C .k) then has (column C j) d else eqb d (C .k + j))
 
 unfoldable pub checks : Code → List ℕ
 unfolding tabulate check

@@ -9,15 +9,16 @@ use native.Mathlib.Omega.{arith}
 use lib.Arith.{bin-ind}
 use lib.Bits.{xor-shr, and-shr, and-mask, and-comm}
 use lib.Count.{ones, ones-step, ones-cat, ones-ones, ones-le}
-use lib.Dec.{T}
+use lib.Dec.{T, eqb}
 use lib.ListN.{length, length-map}
 use lib.Pow.{pow-pos}
 use Rattle.gf2.specs.Sets.{bit, has, size, _∩_, _⊕_, _∖_, _⊆_}
 use Rattle.gf2.specs.Span.{InSpan}
 use Rattle.gf2.specs.Within.{lowest, clear, within}
-use Rattle.gf2.proofs.Tests.{eqb-in, eqb-out}
+use Rattle.gf2.proofs.Tests.{dec, eqb-in, eqb-out}
 use Rattle.gf2.proofs.Bits.{bit-low, bit-cases, bit-⊕, bit-∩, not-has}
-use Rattle.gf2.proofs.Subsets.{⊆-in, ⊆-out, ⊕-out, ∩-out, zero-⊆, ⊆-zero, ∖-in, ∖-out, less-⊆, ⊆-none, none-⊆, power-out, power-⊆, lowest-has}
+use Rattle.gf2.proofs.Xor.{zero-⊕}
+use Rattle.gf2.proofs.Subsets.{⊆-in, ⊆-out, ⊕-out, ∩-out, zero-⊆, ⊆-zero, ∖-in, ∖-out, less-⊆, ⊆-none, none-⊆, power-out, power-⊆, less-back, lowest-has}
 use Rattle.gf2.proofs.Spans.{first-in}
 use Rattle.gf2.proofs.Elimination.{clear-is, clear-out, dropped-has, by-rows, within-kept, within-dropped}
 
@@ -74,6 +75,19 @@ unfolding _⊆_ _∩_
 size-less S d m =
     let e : S ∩ 2 ^ d ≡ 2 ^ d = and-comm S (2 ^ d) ∙ eqb-out (2 ^ d ∩ S) (2 ^ d) (power-⊆ d S m) in
     ap (λ (x : ℕ). size (S ∖ 2 ^ d) + x) (sym (size-power d) ∙ ap size (sym e)) ∙ size-split S (2 ^ d)
+
+-- a set of no disk, and of one
+pub size-none : (S : ℕ) → size S ≡ 0 → S ≡ 0
+size-none S e =
+    ⊎-elim (eqb-out S 0) (λ f. absurd (let h = size-less S (lowest S) (lowest-has S (λ z. f (eqb-in z))) in omega arith)) (dec (eqb S 0))
+
+pub size-one : (S : ℕ) → size S ≡ 1 → S ≡ 2 ^ lowest S
+size-one S e =
+    let z : size 0 ≡ 0 = (let h = size-lt 0 0 (omega arith) in omega arith) in
+    let m : T (has S (lowest S)) = lowest-has S (λ o. let h : size S ≡ 0 = ap size o ∙ z in omega arith) in
+    let h = size-less S (lowest S) m in
+    let n : S ∖ 2 ^ lowest S ≡ 0 = size-none (S ∖ 2 ^ lowest S) (omega arith) in
+    sym (less-back S (lowest S) m) ∙ ap (λ (x : ℕ). x ⊕ 2 ^ lowest S) n ∙ zero-⊕ (2 ^ lowest S)
 
 -- all disks below n
 pub all-⊆ : (n S : ℕ) → S < 2 ^ n → T (S ⊆ 2 ^ n - 1)

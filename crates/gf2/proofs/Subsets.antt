@@ -9,10 +9,11 @@ use native.Mathlib.Omega.{arith}
 use lib.Bits.{and-comm, and-le-r, and-zero-r, xor-disjoint}
 use lib.Count.{trailingZeros}
 use lib.Dec.{T, eqb}
+use lib.Pow.{pow-mono}
 use Rattle.gf2.specs.Sets.{bit, has, _∩_, _⊕_, _∖_, _⊆_, _⊂_}
 use Rattle.gf2.specs.Within.{lowest}
-use Rattle.gf2.proofs.Tests.{dec, and-in, and-out, eqb-in, eqb-out, neqb-in, neqb-out, T-ext}
-use Rattle.gf2.proofs.Bits.{bit-cases, two-cases, bit-low, bit-suc, half-lt, bit-of-zero, bit-pow-same, bit-pow-other, bit-⊕, bit-∩, ext, lt-pow, has-in, has-out, has-not, not-has}
+use Rattle.gf2.proofs.Tests.{dec, below-or, and-in, and-out, eqb-in, eqb-out, neqb-in, neqb-out, T-ext}
+use Rattle.gf2.proofs.Bits.{bit-cases, two-cases, bit-low, bit-suc, half-lt, bit-of-zero, bit-above, bit-pow-same, bit-pow-other, bit-⊕, bit-∩, ext, lt-pow, has-in, has-out, has-not, not-has}
 use Rattle.gf2.proofs.Xor.{⊕-assoc, ⊕-self, ⊕-zero, ⊕-cancel}
 
 -- ---- membership
@@ -50,6 +51,13 @@ pub ∩-out : (R S i : ℕ) → T (has (R ∩ S) i) → T (has R i) × T (has S 
     go (inl p) q = absurd (not-has (R ∩ S) i (bit-∩ R S i ∙ rw p (zero-mul (bit S i))) m)
     go (inr p) (inl q) = absurd (not-has (R ∩ S) i (bit-∩ R S i ∙ rw (p, q)) m)
     go (inr p) (inr q) = (has-in R i p, has-in S i q)
+
+pub ∩-in : (R S i : ℕ) → T (has R i) → T (has S i) → T (has (R ∩ S) i)
+∩-in R S i m n = has-in (R ∩ S) i (bit-∩ R S i ∙ rw (has-out R i m, has-out S i n))
+
+-- a disk of a set of disks below n is below n
+pub member-below : (n S i : ℕ) → S < 2 ^ n → T (has S i) → i < n
+member-below n S i l t = ⊎-elim (λ h. h) (λ h. absurd (not-has S i (bit-above n S i l h) t)) (below-or i n)
 
 pub same-disks : (R S : ℕ) → ((i : ℕ) → has R i ≡ has S i) → R ≡ S
 same-disks R S e = ext R S (λ i. go i (bit-cases R i))
@@ -131,6 +139,12 @@ power-in d = has-in (2 ^ d) d (bit-pow-same d)
 
 pub power-out : (d i : ℕ) → T (has (2 ^ d) i) → i ≡ d
 power-out d i t = ⊎-elim (eqb-out i d) (λ f. absurd (not-has (2 ^ d) i (bit-pow-other d i (λ e. f (eqb-in e))) t)) (dec (eqb i d))
+
+pub power-same : (a b : ℕ) → 2 ^ a ≡ 2 ^ b → a ≡ b
+power-same a b e = power-out b a (subst (λ (w : ℕ). T (has w a)) e (power-in a))
+
+pub power-less : (a b : ℕ) → 2 ^ a < 2 ^ b → a < b
+power-less a b l = ⊎-elim (λ h. h) (λ h. absurd (let k : 2 ^ b ≤ 2 ^ a = pow-mono h in omega arith)) (below-or a b)
 
 pub power-⊆ : (d S : ℕ) → T (has S d) → T (2 ^ d ⊆ S)
 power-⊆ d S m = ⊆-in (2 ^ d) S (λ i t. subst (λ (x : ℕ). T (has S x)) (sym (power-out d i t)) m)

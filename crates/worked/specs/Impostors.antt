@@ -16,7 +16,8 @@ use Rattle.flat.specs.Cards.{Code, disks, dataPart, cardBytes}
 use Rattle.flat.specs.Erasures.{holdsBit, agreeOutside, fatal, minimalErasure, erasures}
 use Rattle.flat.specs.Equations.{equation, equations}
 use Rattle.flat.specs.Faults.{Report, accepted, refused, erasuresReport, rebuildReport}
-use Rattle.flat.specs.Spans.{rows, check}
+use Rattle.flat.specs.Checks.{check}
+use Rattle.flat.specs.Spans.{rows}
 use Rattle.worked.specs.Table.{C1, C2, C3, C4, C6, C8}
 
 -- ---- what is fatal

@@ -10,7 +10,8 @@ use lib.Pow.{pow-mono}
 use Rattle.gf2.proofs.Bits.{one-shifted}
 use Rattle.flat.specs.Lists.{padded, tabulate}
 use Rattle.flat.specs.Cards.{codeIn}
-use Rattle.flat.specs.Spans.{check, checks}
+use Rattle.flat.specs.Checks.{check}
+use Rattle.flat.specs.Spans.{checks}
 use Rattle.flat.proofs.Lists.{fill-none, fill-more, length-tabulate, take-padded}
 use Rattle.bases.proofs.Adding.{add-fits, check-sum}
 use borrow.Author.Needs.{needs}

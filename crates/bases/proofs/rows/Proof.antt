@@ -7,7 +7,8 @@ use denote.Ref.{now}
 use lib.ListN.{length, take}
 use Rattle.flat.specs.Lists.{padded, tabulate}
 use Rattle.flat.specs.Cards.{codeIn}
-use Rattle.flat.specs.Spans.{row, rows}
+use Rattle.flat.specs.Checks.{row}
+use Rattle.flat.specs.Spans.{rows}
 use Rattle.flat.proofs.Lists.{fill-none, fill-more, length-tabulate, take-padded}
 use borrow.Author.Needs.{needs}
 use Rattle.bases.proofs.rows.Statement.{statement}
