@@ -13,6 +13,7 @@ use Rattle.flat.specs.Cards.{Code}
 use Rattle.flat.specs.Faults.{Report, unlessRefused, cardReport, cardColumns, cardWriteReport, cardWriteBuffer, encodeReport, encodeStripe, erasuresReport, erasuresVector, erasuresSlice, equationsReport, equationsSlice, rebuildReport, rebuildStripe}
 use Rattle.record_format.specs.Records.{offsetIn, bodyLengthIn}
 use Rattle.record_format.specs.Faults.{recordWriteReport, recordWriteOutput, recordReport, recordColumns, bodyReport}
+use Rattle.peeling.specs.Faults.{trayReport, trayLefts, trayBytes}
 
 -- the call is refused
 abbrev pub Refused : Report → Type 0
@@ -26,8 +27,10 @@ pub record Demand1 : Type 0 where
   pub rebuilder : (card : List ℕ) (L S : ℕ) (stripe : List ℕ) → Refused (rebuildReport card L S stripe) → rebuildStripe card L S stripe ≡ stripe
   pub record-writer : (card : List ℕ) (L S : ℕ) (stripe output : List ℕ) → Refused (recordWriteReport card L S (length stripe) (length output))
       → recordWriteOutput card L S stripe output ≡ output
-  -- the arrays that a caller in C lends, as the exported calls leave them: the card reader's, the lister's, the record reader's and the body
-  -- call's
+  pub quick-repair : (card : List ℕ) (L budget : ℕ) (Ss tray : List ℕ) → Refused (trayReport card L budget Ss tray)
+      → trayBytes card L budget Ss tray ≡ tray
+  -- the arrays that a caller in C lends, as the exported calls leave them: the card reader's, the lister's, the record reader's, the body
+  -- call's and quick repair's
   pub card-counts : (card counts : List ℕ) → Refused (cardReport card) → unlessRefused (cardReport card) (cardReport card .values) counts ≡ counts
   pub card-columns : (card columns : List ℕ) → Refused (cardReport card) → unlessRefused (cardReport card) (cardColumns card) columns ≡ columns
   pub vector : (card : List ℕ) (n : ℕ) (vector : List ℕ) → Refused (erasuresReport card n) → unlessRefused (erasuresReport card n) (erasuresVector card n) vector ≡ vector
@@ -35,3 +38,5 @@ pub record Demand1 : Type 0 where
   pub record-columns : (file columns : List ℕ) → Refused (recordReport file) → unlessRefused (recordReport file) (recordColumns file) columns ≡ columns
   pub body-place : (file : List ℕ) (d : ℕ) (place : List ℕ) → Refused (bodyReport file d)
       → unlessRefused (bodyReport file d) (offsetIn file (suc d) ∷ bodyLengthIn file (suc d) ∷ []) place ≡ place
+  pub lefts : (card : List ℕ) (L budget : ℕ) (Ss tray left : List ℕ) → Refused (trayReport card L budget Ss tray)
+      → unlessRefused (trayReport card L budget Ss tray) (trayLefts card L budget Ss tray) left ≡ left

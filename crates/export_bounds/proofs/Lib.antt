@@ -1,4 +1,5 @@
 pub mod ListLengths
 pub mod Values
 pub mod RecordValues
+pub mod TrayValues
 pub mod Theorems

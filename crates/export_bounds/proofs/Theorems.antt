@@ -10,6 +10,7 @@ use Rattle.export_bounds.specs.Coded.{value, codedFault}
 use Rattle.export_bounds.specs.Theorems.{CodedDecodes, FaultDecodes, ReportsFit}
 use Rattle.export_bounds.proofs.Values.{card-fits, card-write-fits, encode-fits, verdict-fits, erasures-fits, alike-fits, equations-fits, rebuild-fits}
 use Rattle.export_bounds.proofs.RecordValues.{record-write-fits, record-fits, body-fits}
+use Rattle.export_bounds.proofs.TrayValues.{tray-fits}
 
 pub coded-decodes : CodedDecodes
 coded-decodes r h = (omega arith, omega arith)
@@ -36,4 +37,5 @@ reports-fit = record {
   record-writer = record-write-fits;
   record-reader = record-fits;
   body-call = body-fits;
+  quick-repair = tray-fits;
 }

@@ -9,6 +9,7 @@ use Rattle.flat.specs.Erasures.{erasures}
 use Rattle.flat.specs.Equations.{equations}
 use Rattle.flat.specs.Faults.{Report, unlessRefused, cardReport, cardWriteReport, encodeReport, verdictReport, erasuresReport, alikeReport, equationsReport, rebuildReport}
 use Rattle.record_format.specs.Faults.{recordWriteReport, recordReport, bodyReport}
+use Rattle.peeling.specs.Faults.{trayReport}
 use Rattle.export_bounds.specs.Coded.{value, coded, codedFault, Fits}
 
 -- The one number tells both: its low 8 bits are the report's number, and the rest is the value.
@@ -33,6 +34,7 @@ pub record ReportsFit : Type 0 where
   pub record-writer : (card : List ℕ) (L S n p : ℕ) → Fits (recordWriteReport card L S n p)
   pub record-reader : (file : List ℕ) → Fits (recordReport file)
   pub body-call : (file : List ℕ) (d : ℕ) → Fits (bodyReport file d)
+  pub quick-repair : (card : List ℕ) (L budget : ℕ) (Ss tray : List ℕ) → Fits (trayReport card L budget Ss tray)
 
 -- The minimal erasures are fewer than the data words.
 abbrev pub ErasuresFew : Type 0

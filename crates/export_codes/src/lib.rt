@@ -14,6 +14,7 @@ ghost use Rattle.erasures.specs.Reports.{report as listedReport};
 ghost use Rattle.equations.specs.Reports.{report as toldReport};
 ghost use Rattle.encoder.specs.Reports.{report as encodedReport};
 ghost use Rattle.rebuilder.specs.Reports.{report as rebuiltReport};
+ghost use Rattle.tray.specs.Reports.{report as repairedReport};
 ghost use Rattle.export_bounds.specs.Coded.{coded, Fits};
 use card::CardFault;
 use card_writer::CardWritten;
@@ -22,6 +23,7 @@ use equations::Told;
 use erasures::Listed;
 use likeness::Likeness;
 use rebuilder::Rebuilt;
+use tray::Repaired;
 use verdicts::SetVerdict;
 
 mod records;
@@ -134,5 +136,20 @@ pub fn rebuilt_code(rebuilt: Rebuilt) -> u64
         Rebuilt::StripeLength => 7,
         Rebuilt::Fatal => 11,
         Rebuilt::Inconsistent => 12,
+    }
+}
+
+// Quick repair's answer.
+pub fn repaired_code(repaired: Repaired) -> u64
+    requires { ⌜ Fits (repairedReport repaired) ⌝ }
+    ensures { λ r. ⌜ r ≡ coded (repairedReport repaired) ⌝ }
+{
+    match repaired {
+        Repaired::Steps(steps) => packed(0, steps),
+        Repaired::Card(fault) => fault_code(fault),
+        Repaired::StripLength => 6,
+        Repaired::StripeCount => 17,
+        Repaired::OutsideSet => 8,
+        Repaired::TrayLength => 7,
     }
 }

@@ -1,0 +1,50 @@
+-- The pass over the checks, one check at a time.
+-- Assumes nothing.
+use mathlib.Core.Path.{_≡_, refl, sym, _∙_, subst}
+use mathlib.Core.Bool.{Bool, true, false, _&&_, _||_}
+use mathlib.Core.Logic.{_≢_}
+use mathlib.Core.List.{List}
+use Prim.Native.Nat.{ℕ, _+_}
+use native.Mathlib.Numerals.{add-one}
+use lib.Dec.{T, eqb, ltb}
+use lib.ListN.{getD}
+use Rattle.gf2.specs.If.{if_then_else_}
+use Rattle.gf2.specs.Sets.{size, _∩_}
+use Rattle.gf2.proofs.Tests.{true-T, false-T, T-true, T-false, T-ext, and-in, and-out, unless-in, unless-out, eqb-in, eqb-out, if-true, if-false}
+use Rattle.peeler.specs.Forms.{Found, better, found}
+
+-- ---- the test
+
+pub not-one : (c s : ℕ) → size c ≢ 1 → better c s ≡ false
+unfolding better
+not-one c s f = T-false {b = better c s} (λ t. f (eqb-out (size c) 1 (and-out (eqb (size c) 1) (eqb s 0 || ltb c s) t .0)))
+
+pub one-first : (c s : ℕ) → size c ≡ 1 → s ≡ 0 → better c s ≡ true
+unfolding better
+one-first c s e z =
+    T-true {b = better c s} (and-in (eqb (size c) 1) (eqb s 0 || ltb c s) (eqb-in e) (unless-in (eqb s 0) (ltb c s) (λ g. absurd (g (eqb-in z)))))
+
+pub one-lower : (c s : ℕ) → size c ≡ 1 → s ≢ 0 → better c s ≡ ltb c s
+unfolding better
+one-lower c s e f =
+    T-ext {a = better c s} {b = ltb c s}
+    (λ t. unless-out (eqb s 0) (ltb c s) (and-out (eqb (size c) 1) (eqb s 0 || ltb c s) t .1) (λ z. f (eqb-out s 0 z)))
+    (λ t. and-in (eqb (size c) 1) (eqb s 0 || ltb c s) (eqb-in e) (unless-in (eqb s 0) (ltb c s) (λ g. t)))
+
+-- ---- one check more
+
+module _ (ws : List ℕ) (S j d : ℕ) (is : d ≡ found ws S j .set) where
+  abbrev new : Found
+  new = record { set = getD ws j 0 ∩ S; word = getD ws j 0 }
+
+  more : (if better (getD ws j 0 ∩ S) d then new else found ws S j) ≡ found ws S (j + 1)
+  unfolding found
+  more =
+      rw add-one
+      (subst (λ (x : ℕ). (if better (getD ws j 0 ∩ S) d then new else found ws S j) ≡ (if better (getD ws j 0 ∩ S) x then new else found ws S j)) is refl)
+
+  pub pass-better : better (getD ws j 0 ∩ S) d ≡ true → new ≡ found ws S (j + 1)
+  pass-better e = sym (if-true (better (getD ws j 0 ∩ S) d) new (found ws S j) (true-T {b = better (getD ws j 0 ∩ S) d} e)) ∙ more
+
+  pub pass-older : better (getD ws j 0 ∩ S) d ≡ false → found ws S j ≡ found ws S (j + 1)
+  pass-older e = sym (if-false (better (getD ws j 0 ∩ S) d) new (found ws S j) (false-T {b = better (getD ws j 0 ∩ S) d} e)) ∙ more

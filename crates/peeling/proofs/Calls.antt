@@ -1,0 +1,156 @@
+-- The call's report, and what an accepted call does.
+-- Assumes nothing.
+use mathlib.Core.Path.{_≡_, sym, ap, _∙_, subst}
+use mathlib.Core.Bool.{Bool, true, false, not}
+use mathlib.Core.Logic.{_≢_}
+use mathlib.Core.List.{List, [], _∷_}
+use Prim.Native.Nat.{ℕ, suc, _-_, _*_, _≤_, _<_}
+use native.Mathlib.Omega.{arith}
+use lib.Dec.{T, eqb, ltb}
+use lib.ListN.{length, getD, replicate, length-map, List·getD-map, List·getD-append}
+use Rattle.gf2.specs.If.{if_then_else_}
+use Rattle.gf2.proofs.Tests.{eqb-out}
+use Rattle.flat.specs.Lists.{padded}
+use Rattle.flat.specs.Cards.{Code, codeOf, disks, countOk, firstBad, cardLength}
+use Rattle.flat.specs.Strips.{lengthOk}
+use Rattle.flat.specs.Faults.{Report, accepted, refused, unlessRefused, codeReport, cardReport}
+use Rattle.flat.proofs.Reports.{passed-number, unless-number, with-number}
+use Rattle.repair_steps.specs.Steps.{Repairs}
+use Rattle.repair_steps.proofs.Stepped.{repair-gives}
+use Rattle.peeling.specs.Peeling.{lone, Peeled, rest}
+use Rattle.peeling.specs.Trays.{trayPeeled, total, lefts, joined}
+use Rattle.peeling.specs.Faults.{trayOk, setsOk, trayTests, trayReport, trayLefts, trayBytes}
+use Rattle.peeling.specs.Theorems.{stripeOf, result, sizes, NoDisksFault, TrayAccepted}
+use Rattle.peeling.proofs.Trays.{tray-length, tray-count, tray-cut, tray-enough, tray-turn, tray-stuck, tray-repairs, tray-long}
+
+-- ---- never 11 or 12
+
+-- the report's number is another
+record Not (x : ℕ) (r : Report) : Type 0 where
+  differs : r .number ≢ x
+
+module _ (x : ℕ) (low : 11 ≤ x) (high : x ≤ 12) where
+  -- another refusal first, and then none of the two
+  unless : (b : Bool) (n : ℕ) (vs : List ℕ) {next : Report} → n ≢ x → Not x next → Not x (if b then refused n vs else next)
+  unless true n vs f g = record { differs = f }
+  unless false n vs f g = g
+
+  fine : (vs : List ℕ) → Not x (accepted vs)
+  fine vs = record { differs = λ e. omega arith }
+
+  card-never : (card : List ℕ) → Not x (cardReport card)
+  unfolding cardReport codeReport
+  card-never card =
+      let C = codeOf card in
+      unless (ltb (length card) 2) 1 [] (λ e. omega arith)
+      (unless (not (countOk (C .k))) 2 [] (λ e. omega arith)
+      (unless (not (countOk (C .m))) 3 [] (λ e. omega arith)
+      (unless (not (eqb (length card) (cardLength (C .m)))) 4 [] (λ e. omega arith)
+      (unless (ltb (firstBad (C .k) (C .columns)) (C .m)) 5 (firstBad (C .k) (C .columns) ∷ []) (λ e. omega arith) (fine (C .k ∷ C .m ∷ []))))))
+
+  with-never : (card : List ℕ) {r : Report} → Not x r → Not x (unlessRefused (cardReport card) r (cardReport card))
+  unfolding unlessRefused
+  with-never card {r} g = go (eqb (cardReport card .number) 0)
+    where
+      go : (b : Bool) → Not x (if b then r else cardReport card)
+      go true = g
+      go false = card-never card
+
+  tray-never : (card : List ℕ) (L budget : ℕ) (Ss tray : List ℕ) → Not x (trayReport card L budget Ss tray)
+  unfolding trayReport trayTests
+  tray-never card L budget Ss tray =
+      let C = codeOf card in
+      with-never card
+      (unless (not (lengthOk L)) 6 [] (λ e. omega arith)
+      (unless (not (trayOk (length Ss))) 17 [] (λ e. omega arith)
+      (unless (not (setsOk C Ss)) 8 [] (λ e. omega arith)
+      (unless (not (eqb (length tray) (length Ss * (disks C * L)))) 7 [] (λ e. omega arith) (fine (total (trayPeeled C L budget Ss tray) ∷ []))))))
+
+pub no-disks-fault : NoDisksFault
+no-disks-fault card L budget Ss tray = (
+  tray-never 11 (omega arith) (omega arith) card L budget Ss tray .differs,
+  tray-never 12 (omega arith) (omega arith) card L budget Ss tray .differs,
+)
+
+-- ---- an accepted tray call
+
+tested-out : (C : Code) (L budget : ℕ) (Ss tray : List ℕ) → trayTests C L budget Ss tray .number ≡ 0
+    → (length tray ≡ length Ss * (disks C * L)) × (trayTests C L budget Ss tray ≡ accepted (total (trayPeeled C L budget Ss tray) ∷ []))
+unfolding trayTests
+tested-out C L budget Ss tray e =
+    let n = length tray in
+    let steps = total (trayPeeled C L budget Ss tray) in
+    let a = passed-number (not (lengthOk L)) 5 [] _ e in
+    let b = passed-number (not (trayOk (length Ss))) 16 [] _ (a .1) in
+    let c = passed-number (not (setsOk C Ss)) 7 [] _ (b .1) in
+    let d = passed-number (not (eqb n (length Ss * (disks C * L)))) 6 [] (accepted (steps ∷ [])) (c .1) in
+    (eqb-out n (length Ss * (disks C * L)) (not-false (eqb n (length Ss * (disks C * L))) (d .0)), a .2 ∙ b .2 ∙ c .2 ∙ d .2)
+  where
+    not-false : (b : Bool) → not b ≡ false → T b
+    not-false true e = tt
+    not-false false e = absurd (let z : _≡_ {A = ℕ} 1 0 = ap (λ (b : Bool). if b then 1 else 0) e in omega arith)
+
+module _ (card : List ℕ) (L budget : ℕ) (Ss tray : List ℕ) (ok : trayReport card L budget Ss tray .number ≡ 0) where
+  C : Code
+  C = codeOf card
+
+  rs : List Peeled
+  rs = trayPeeled C L budget Ss tray
+
+  answer : (length tray ≡ length Ss * (disks C * L)) × (trayReport card L budget Ss tray ≡ accepted (total rs ∷ []))
+  unfolding trayReport C rs
+  answer =
+      let f : Code → Report = λ D. trayTests D L budget Ss tray in
+      let w : trayReport card L budget Ss tray ≡ f C = with-number card f ok in
+      let t = tested-out C L budget Ss tray (sym (ap (λ (r : Report). r .number) w) ∙ ok) in
+      (t .0, w ∙ t .1)
+
+  bytes-is : trayBytes card L budget Ss tray ≡ joined rs
+  unfolding trayBytes C rs
+  bytes-is = unless-number (trayReport card L budget Ss tray) (joined rs) tray ok
+
+  left-is : (i : ℕ) → i < length Ss → getD (trayLefts card L budget Ss tray) i 0 ≡ result rs i .left
+  unfolding trayLefts padded lefts C rs
+  left-is i l =
+      let k : i < length (lefts rs) =
+      subst (λ (n : ℕ). i < n) (sym (length-map rs (λ (r : Peeled). r .left) ∙ tray-length C L budget Ss tray)) l in
+      ap (λ (xs : List ℕ). getD (padded 8 xs) i 0) (unless-number (trayReport card L budget Ss tray) (lefts rs) [] ok)
+      ∙ List·getD-append (lefts rs) (replicate (8 - length (lefts rs)) 0) 0 i k
+      ∙ List·getD-map (λ (r : Peeled). r .left) rs i (rest 0 [])
+
+  each-repairs : (i : ℕ) → i < length Ss
+      → Repairs C L (getD Ss i 0) (stripeOf C L i tray) (getD (trayLefts card L budget Ss tray) i 0) (stripeOf C L i (trayBytes card L budget Ss tray))
+  unfolding C rs
+  each-repairs i l =
+      subst (λ (w : ℕ). Repairs C L (getD Ss i 0) (stripeOf C L i tray) w (stripeOf C L i (trayBytes card L budget Ss tray))) (sym (left-is i l))
+      (subst (λ (new : List ℕ). Repairs C L (getD Ss i 0) (stripeOf C L i tray) (result rs i .left) (stripeOf C L i new)) (sym bytes-is)
+      (tray-repairs C L budget Ss tray i l (answer .0)))
+
+pub tray-accepted : TrayAccepted
+unfolding C rs
+tray-accepted card L budget Ss tray ok =
+    let C = codeOf card in
+    let rs = trayPeeled C L budget Ss tray in
+    let all = trayPeeled C L (sizes Ss) Ss tray in
+    let a = answer card L budget Ss tray ok in
+    let k = tray-count C L (sizes Ss) Ss tray in
+    let c = tray-cut C L budget (sizes Ss) Ss tray (omega arith) in
+    record {
+      steps = a .1 ∙ ap (λ (n : ℕ). accepted (n ∷ [])) c;
+      most = omega arith;
+      long = ap length (bytes-is card L budget Ss tray ok) ∙ tray-long C L budget Ss tray (a .0);
+      turn = λ i l. let t = tray-turn C L budget Ss tray i l (a .0) in (
+        left-is card L budget Ss tray ok i l ∙ ap (λ (r : Peeled). r .left) (t .0),
+        ap (stripeOf C L i) (bytes-is card L budget Ss tray ok) ∙ t .1 ∙ ap (λ (r : Peeled). r .stripe) (t .0),
+      );
+      each = each-repairs card L budget Ss tray ok;
+      restored = λ i l content a d t b h f. repair-gives C L (getD Ss i 0) (getD (trayLefts card L budget Ss tray) i 0) (stripeOf C L i tray)
+          (stripeOf C L i (trayBytes card L budget Ss tray)) content (each-repairs card L budget Ss tray ok i l) a d t b h f;
+      stuck = λ h i d j l b m t.
+          let c = suc (sizes Ss) in
+          let same = tray-enough C L budget (sizes Ss) Ss tray (omega arith) h in
+          let more = tray-enough C L c (sizes Ss) Ss tray (omega arith) (omega arith) in
+          let n = tray-count C L c Ss tray in
+          tray-stuck C L c Ss tray (omega arith) i l d j b m
+          (subst (λ (w : ℕ). T (lone C w d j)) (left-is card L budget Ss tray ok i l ∙ ap (λ (x : List Peeled). result x i .left) (same ∙ sym more)) t);
+    }

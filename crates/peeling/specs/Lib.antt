@@ -1,0 +1,5 @@
+pub mod Peeling
+pub mod Trays
+pub mod Faults
+pub mod Theorems
+pub mod Impostors

@@ -1,0 +1,4 @@
+pub mod Placing
+pub mod Turning
+pub mod Answered
+pub mod Theorems
