@@ -1,13 +1,13 @@
 /* The calls of libbridgecrumb.a, for C and C++. `rt staticlib bridgecrumb` writes the archive.
  *
- * An answer is one number: document 01's number of the refusal, 0 where the call is accepted, plus 256
+ * An answer is one number: the documents' number of the refusal, 0 where the call is accepted, plus 256
  * times the one value that is named for it (a column, a count, a length). BRIDGECRUMB_NUMBER and
  * BRIDGECRUMB_VALUE take it apart. Further values go into arrays that the caller lends.
  *
  * A refused call changes no lent byte. Every byte string, number, set and length is a legal argument. The
  * caller guarantees three things: a pointer reaches as many elements as the length beside it says (it may
- * be null where that is 0) or as its declaration says (counts[2], columns[16], vector[17], fields[4] and
- * place[2] may not be null), no buffer that is written overlaps another that is lent, and no other thread
+ * be null where that is 0) or as its declaration says (counts[2], columns[16], vector[17], left[8], fields[4]
+ * and place[2] may not be null), no buffer that is written overlaps another that is lent, and no other thread
  * writes a lent buffer meanwhile. The calls keep no state.
  *
  * A set of disks is a 32-bit number, bit i for disk i. C cuts a wider one to its low 32 bits before the
@@ -35,7 +35,7 @@ enum bridgecrumb_number {
     BRIDGECRUMB_CARD_LENGTH = 4,   /* the card's length is not 2 + 2m */
     BRIDGECRUMB_COLUMN = 5,        /* a column 0 or at least 2^k; the value is the first such */
     BRIDGECRUMB_STRIP_LENGTH = 6,  /* a strip length outside 1 to 65,536 */
-    BRIDGECRUMB_BUFFER_LENGTH = 7, /* a stripe or card buffer of another length than stated */
+    BRIDGECRUMB_BUFFER_LENGTH = 7, /* a stripe, tray or card buffer of another length than stated */
     BRIDGECRUMB_OUTSIDE_SET = 8,   /* a lost set with a disk that the code lacks */
     BRIDGECRUMB_NO_DISK = 9,       /* a disk that the code lacks */
     BRIDGECRUMB_LIST_SHORT = 10,   /* a list longer than the lent slice; the value is the count needed */
@@ -44,7 +44,8 @@ enum bridgecrumb_number {
     BRIDGECRUMB_MARK = 13,         /* a file under 10 bytes, or another mark */
     BRIDGECRUMB_CONTENTS = 14,     /* contents that are not those of a record */
     BRIDGECRUMB_FILE_LENGTH = 15,  /* a file of another length than its record */
-    BRIDGECRUMB_NO_ROOM = 16       /* an output shorter than the record, or the body of a lost disk */
+    BRIDGECRUMB_NO_ROOM = 16,      /* an output shorter than the record, or the body of a lost disk */
+    BRIDGECRUMB_STRIPE_COUNT = 17  /* a tray of no stripes or of more than 8 */
 };
 
 /* Takes a card. Answers k and m in `counts`, and the m columns, then zeros, in `columns`.
@@ -87,6 +88,17 @@ uint64_t bridgecrumb_equations(const uint8_t *card, size_t card_len, size_t disk
  * Writes the lost strips, those that the survivors tell; the value is how many disks are lost.
  * Refuses 1 to 5, then 6, 8, 7, 11, 12. */
 uint64_t bridgecrumb_rebuild(const uint8_t *card, size_t card_len, size_t strip_len, uint32_t lost, uint8_t *stripe, size_t stripe_len);
+
+/* Takes a card, a list of 1 to 8 sets of lost disks, a budget of steps and a tray: for each set its stripe, one
+ * after the other. A step takes the lowest lost disk that is the only lost member of some parity's check, that
+ * parity with its data disks, and the lowest such parity, and writes the XOR of the others. Stripes go in turn,
+ * each until it sticks. Strips that stay lost keep their bytes. The value is how many steps were made, at most
+ * the budget; what is left of each set goes into `left`, another array than `lost`, and its places past the list
+ * become 0. Survivors of no content are not noticed here: bridgecrumb_rebuild with what is left then refuses as
+ * it would have before.
+ * Refuses 1 to 5, then 6, 17, 8, 7 (a tray of another length than count stripes). */
+uint64_t bridgecrumb_quick_repair(const uint8_t *card, size_t card_len, size_t strip_len, const uint32_t *lost, size_t count, size_t budget,
+                                  uint8_t *tray, size_t tray_len, uint32_t left[8]);
 
 /* Takes a card, a set of lost disks, a stripe and an output.
  * Writes the record at the output's front and leaves the rest; the value is the record's length.

@@ -1,5 +1,5 @@
 /* Every call from C, as the header declares it: null pointers of length 0, wrong lengths, numbers and sets out of range. The answers stand here,
- * with the number that document 01's order of faults gives; a refused call changes no lent byte. What an accepted call writes, and that
+ * with the number that the documents' order of faults gives; a refused call changes no lent byte. What an accepted call writes, and that
  * no call reaches outside its buffers, is tried in rust/calls. Ends with the number of calls.
  */
 #include <stdio.h>
@@ -16,7 +16,7 @@ static uint8_t record[104]; /* of C1 with that stripe and disk 2 lost */
 /* everything that is lent to be written, and what it was before the call */
 struct lent {
     uint8_t stripe[8], out[112];
-    uint32_t slice[16];
+    uint32_t slice[16], sets[8];
     size_t numbers[17];
     uint16_t columns[16];
 };
@@ -111,6 +111,21 @@ static void stripes(void)
     TRY(12, 0, rebuild(c3, 6, 1, 1, lent.stripe, 4)); /* disk 1 and its mirror differ */
 }
 
+static void trays(void)
+{
+    static const uint32_t sets[] = {3, 0x80, 0, 0, 0, 0, 0, 0, 0};
+    TRY(0, 2, quick_repair(c1, 8, 1, sets, 1, SIZE_MAX, lent.stripe, 7, lent.sets));
+    TRY(0, 0, quick_repair(c1, 8, 1, sets, 1, 0, lent.stripe, 7, lent.sets));
+    TRY(1, 0, quick_repair(NULL, 0, 0, NULL, 0, 0, NULL, 0, lent.sets));
+    TRY(6, 0, quick_repair(c1, 8, 0, NULL, 0, 0, NULL, 0, lent.sets));
+    TRY(17, 0, quick_repair(c1, 8, 1, NULL, 0, 1, NULL, 0, lent.sets));
+    TRY(17, 0, quick_repair(c1, 8, 1, sets, 9, 1, lent.stripe, 7, lent.sets));
+    TRY(8, 0, quick_repair(c1, 8, 1, sets, 2, 1, NULL, 0, lent.sets));
+    TRY(7, 0, quick_repair(c1, 8, 1, sets, 1, 1, NULL, 0, lent.sets));
+    TRY(7, 0, quick_repair(c1, 8, 1, sets + 2, 2, 1, lent.stripe, 7, lent.sets)); /* one stripe for two sets */
+    TRY(7, 0, quick_repair(c1, 8, 1, sets, 1, 1, lent.stripe, 6, lent.sets));
+}
+
 static void records(void)
 {
     TRY(0, 104, record_write(c1, 8, 1, 4, lent.stripe, 7, lent.out, 104));
@@ -140,7 +155,8 @@ int main(void)
     cards();
     sets();
     stripes();
+    trays();
     records();
-    printf("bad input: %u calls from C, all by document 01's numbers\n", tried);
+    printf("bad input: %u calls from C, all by the documents' numbers\n", tried);
     return 0;
 }

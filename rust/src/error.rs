@@ -2,7 +2,7 @@
 
 use std::fmt;
 
-/// Why a call was refused: document 01's refusals 1 to 16, in order.
+/// Why a call was refused: the documents' refusals, by number.
 #[derive(Debug, Clone, Copy, PartialEq, Eq)]
 pub enum Error {
     /// 1: the card is shorter than 2 bytes.
@@ -17,7 +17,7 @@ pub enum Error {
     Column(usize),
     /// 6: the strip length is outside 1 to 65,536.
     StripLength,
-    /// 7: a stripe or a card buffer has another length than it must have.
+    /// 7: a stripe, a tray or a card buffer has another length than it must have.
     BufferLength,
     /// 8: the set holds a disk that the code lacks.
     OutsideSet,
@@ -37,10 +37,12 @@ pub enum Error {
     FileLength,
     /// 16: the output is shorter than the record, or the disk whose body is wanted is lost.
     NoRoom,
+    /// 17: the tray has no stripe, or more than 8.
+    StripeCount,
 }
 
 impl Error {
-    /// Document 01's number of the refusal, 1 to 16.
+    /// The documents' number of the refusal.
     ///
     /// ```
     /// assert_eq!(bridgecrumb::Error::Fatal.number(), 11);
@@ -63,6 +65,7 @@ impl Error {
             Error::Contents => 14,
             Error::FileLength => 15,
             Error::NoRoom => 16,
+            Error::StripeCount => 17,
         }
     }
 
@@ -92,7 +95,9 @@ impl fmt::Display for Error {
             Error::CardLength => out.write_str("the card has not one column for each parity disk"),
             Error::Column(column) => write!(out, "column {column} is empty or has a data disk that the code lacks"),
             Error::StripLength => out.write_str("the strip length is outside 1 to 65,536"),
-            Error::BufferLength => out.write_str("the stripe or card buffer has another length than it must have"),
+            Error::BufferLength => {
+                out.write_str("the stripe, tray or card buffer has another length than it must have")
+            }
             Error::OutsideSet => out.write_str("the set holds a disk that the code lacks"),
             Error::NoDisk => out.write_str("the code lacks the disk"),
             Error::ListShort(needed) => write!(out, "the lent slice is too short, {needed} entries are needed"),
@@ -102,6 +107,7 @@ impl fmt::Display for Error {
             Error::Contents => out.write_str("the file's contents are not those of a record"),
             Error::FileLength => out.write_str("the file has another length than its record"),
             Error::NoRoom => out.write_str("the output is shorter than the record, or the disk is lost"),
+            Error::StripeCount => out.write_str("the tray has no stripe or more than 8"),
         }
     }
 }

@@ -40,6 +40,17 @@ extern "C" {
         stripe: *mut u8,
         stripe_len: usize,
     ) -> u64;
+    pub fn bridgecrumb_quick_repair(
+        card: *const u8,
+        card_len: usize,
+        strip_len: usize,
+        lost: *const u32,
+        count: usize,
+        budget: usize,
+        tray: *mut u8,
+        tray_len: usize,
+        left: *mut u32,
+    ) -> u64;
     pub fn bridgecrumb_record_write(
         card: *const u8,
         card_len: usize,
@@ -75,6 +86,7 @@ fn taken(answer: u64) -> Result<usize, Error> {
         14 => Error::Contents,
         15 => Error::FileLength,
         16 => Error::NoRoom,
+        17 => Error::StripeCount,
         number => unreachable!("the archive has no refusal {number}"),
     })
 }
@@ -117,6 +129,30 @@ pub fn equations(card: &[u8], disk: usize, out: &mut [u32]) -> Result<usize, Err
 pub fn rebuild(card: &[u8], strip_len: usize, lost: u32, stripe: &mut [u8]) -> Result<usize, Error> {
     // SAFETY: each slice goes with its own length, whatever strip_len is, and `stripe` is lent to nobody else
     taken(unsafe { bridgecrumb_rebuild(card.as_ptr(), card.len(), strip_len, lost, stripe.as_mut_ptr(), stripe.len()) })
+}
+
+pub fn quick_repair(
+    card: &[u8],
+    strip_len: usize,
+    lost: &[u32],
+    budget: usize,
+    tray: &mut [u8],
+    left: &mut [u32; 8],
+) -> Result<usize, Error> {
+    // SAFETY: each slice goes with its own length, whatever strip_len is; 8 sets are written, and the array has as many
+    taken(unsafe {
+        bridgecrumb_quick_repair(
+            card.as_ptr(),
+            card.len(),
+            strip_len,
+            lost.as_ptr(),
+            lost.len(),
+            budget,
+            tray.as_mut_ptr(),
+            tray.len(),
+            left.as_mut_ptr(),
+        )
+    })
 }
 
 pub fn record_write(card: &[u8], strip_len: usize, lost: u32, stripe: &[u8], out: &mut [u8]) -> Result<usize, Error> {

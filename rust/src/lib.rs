@@ -2,7 +2,7 @@
 //!
 //! These are safe functions over `libbridgecrumb.a`, one for each call of the engine; the engine's code is
 //! proved, this crate hands over slices and takes the answers apart. "Document 01" below is the paper that
-//! says what the engine does.
+//! says what the engine does, and document 02 the one that adds to it.
 //!
 //! - A *card* describes a code: the bytes k, m, then m columns of 2 bytes, low byte first. Bit i of column j
 //!   is set when data disk i goes into parity disk k + j. The code has n = k + m disks: 0 to k - 1 are data,
@@ -43,4 +43,4 @@ pub use cards::{alike, read_card, write_card, Card};
 pub use error::Error;
 pub use records::{body, read_record, write_record, Record};
 pub use sets::{equations, is_fatal, minimal_erasures, Listing};
-pub use strips::{encode, rebuild};
+pub use strips::{encode, quick_repair, rebuild, Repair};

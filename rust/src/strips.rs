@@ -41,3 +41,46 @@ pub fn encode(card: &[u8], strip_len: usize, stripe: &mut [u8]) -> Result<(), Er
 pub fn rebuild(card: &[u8], strip_len: usize, lost: u32, stripe: &mut [u8]) -> Result<usize, Error> {
     ffi::rebuild(card, strip_len, lost, stripe)
 }
+
+/// What quick repair answers.
+#[derive(Debug, Clone, Copy, PartialEq, Eq)]
+pub struct Repair {
+    /// How many steps were made.
+    pub steps: usize,
+    /// What is left of each stripe's set of lost disks; 0 past the last stripe.
+    pub left: [u32; 8],
+}
+
+/// Takes a card, the strips' length, the sets of lost disks of 1 to 8 stripes, a budget of steps and a tray, the
+/// stripes one after the other. A step takes the lowest lost disk that is the only lost member of some parity's
+/// check, that parity with its data disks, and the lowest such parity; it writes the XOR of the others. Stripes go
+/// in turn, each until it sticks. Answers the steps made, at most the budget, and what is left of each set.
+///
+/// Each restored strip is the one that any data gives it which encodes to what the surviving disks have; strips that stay
+/// lost keep their bytes. Where no data does, that is not noticed here: [`rebuild`] with what is left then
+/// refuses as it would have before.
+///
+/// Refuses 1 to 5, then 6, then 17 where there are no stripes or more than 8, then 8, then 7 where the tray's length
+/// is not `n * strip_len` for each stripe. A refused call writes nothing.
+///
+/// ```
+/// // C7's stripe of document 01, without disks 0 and 1, and without disks 0 to 2, which is for the solver
+/// let card = [4, 3, 7, 0, 11, 0, 13, 0];
+/// let mut tray = [0, 0, 0x44, 0x88, 0x77, 0xBB, 0xDD, 0, 0, 0, 0x88, 0x77, 0xBB, 0xDD];
+/// let repair = bridgecrumb::quick_repair(&card, 1, &[0b11, 0b111], 100, &mut tray)?;
+/// assert_eq!(repair.steps, 2);
+/// assert_eq!(repair.left, [0, 0b111, 0, 0, 0, 0, 0, 0]);
+/// assert_eq!(tray[..7], [0x11, 0x22, 0x44, 0x88, 0x77, 0xBB, 0xDD]);
+/// # Ok::<(), bridgecrumb::Error>(())
+/// ```
+pub fn quick_repair(
+    card: &[u8],
+    strip_len: usize,
+    lost: &[u32],
+    budget: usize,
+    tray: &mut [u8],
+) -> Result<Repair, Error> {
+    let mut left = [0; 8];
+    let steps = ffi::quick_repair(card, strip_len, lost, budget, tray, &mut left)?;
+    Ok(Repair { steps, left })
+}

@@ -15,6 +15,10 @@ pub struct Input {
     /// A set of disks, the lost ones where a stripe is given.
     pub set: u32,
     pub disk: usize,
+    /// The lost disks of each stripe of a tray, and the steps that it may take.
+    pub sets: Vec<u32>,
+    pub budget: usize,
+    /// A stripe, or a tray of them.
     pub stripe: Vec<u8>,
     pub file: Vec<u8>,
     /// How many of the file's last bytes stand on closed pages.

@@ -3,7 +3,7 @@
 
 use crate::input::{bytes_of, Input};
 use crate::lent::Lent;
-use crate::rows::{cards, records, sets, strips};
+use crate::rows::{cards, records, sets, strips, trays};
 use crate::table::{Engine, Row, TABLE};
 use std::env;
 
@@ -35,7 +35,7 @@ pub fn table() -> [Row; TABLE.len()] {
 
 /// Each under a line that says what is wrong.
 #[rustfmt::skip]
-const PLANTED: [Planted; 33] = [
+const PLANTED: [Planted; 34] = [
     // the last wrong column instead of the first
     Archive("card_read", |input, lent| last_wrong_column(input, (cards::READ.engine)(input, lent))),
     // a refusal writes k
@@ -121,6 +121,8 @@ const PLANTED: [Planted; 33] = [
             place[8] = place[8].wrapping_sub(1);
         }
     })),
+    // what is left of the second stripe's set is not told
+    Archive("quick_repair", |input, lent| after(trays::QUICK_REPAIR.engine, input, lent, 0, |lent, _| lent.written(1)[4..8].fill(0))),
     // another number
     Safe("encode", |input, lent| instead(strips::ENCODE.safe, input, lent, 6, true, 7)),
     // a refusal writes

@@ -3,7 +3,7 @@
 use crate::choice::Choice;
 use crate::input::{Input, Told};
 use crate::lent::Lent;
-use crate::rows::{cards, records, sets, strips};
+use crate::rows::{cards, records, sets, strips, trays};
 
 /// A call.
 #[derive(Clone, Copy)]
@@ -37,7 +37,7 @@ pub struct Fault {
 }
 
 /// In the header's order.
-pub const TABLE: [Row; 11] = [
+pub const TABLE: [Row; 12] = [
     cards::READ,
     cards::WRITE,
     cards::ALIKE,
@@ -46,6 +46,7 @@ pub const TABLE: [Row; 11] = [
     sets::LIST,
     sets::EQUATIONS,
     strips::REBUILD,
+    trays::QUICK_REPAIR,
     records::WRITE,
     records::READ,
     records::BODY,

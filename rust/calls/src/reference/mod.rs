@@ -1,4 +1,4 @@
-//! Document 01's calls by brute force, written from the paper alone: it shares nothing with the engine.
+//! The documents' calls by brute force, written from the papers alone: it shares nothing with the engine.
 //!
 //! What every disk holds is worked out for every data word, and each answer is looked up among all words and
 //! sets by the paper's own definition (`literal`). For codes of more than `LITERAL_DISKS` disks that takes
@@ -8,12 +8,13 @@ pub mod literal;
 pub mod quick;
 pub mod records;
 pub mod strips;
+pub mod trays;
 
 use std::cell::RefCell;
 use std::collections::HashMap;
 use std::rc::Rc;
 
-/// A refusal: document 01's number, and the value that it answers, if any.
+/// A refusal: the documents' number, and the value that it answers, if any.
 pub type Refusal = (u8, Option<usize>);
 
 /// A refusal that answers its number alone.

@@ -3,11 +3,17 @@
 use super::{code, literal, outline, quick, refusal, verdict, Code, Refusal};
 use std::rc::Rc;
 
-/// Refusals 6, 8 and 7.
-pub fn check(code: &Code, strip_len: usize, lost: u32, stripe_len: usize) -> Result<(), Refusal> {
+/// Refusal 6.
+pub fn check_length(strip_len: usize) -> Result<(), Refusal> {
     if !(1..=65536).contains(&strip_len) {
         return refusal(6);
     }
+    Ok(())
+}
+
+/// Refusals 6, 8 and 7.
+pub fn check(code: &Code, strip_len: usize, lost: u32, stripe_len: usize) -> Result<(), Refusal> {
+    check_length(strip_len)?;
     if lost & !code.disks() != 0 {
         return refusal(8);
     }

@@ -4,6 +4,7 @@ pub mod cards;
 pub mod records;
 pub mod sets;
 pub mod strips;
+pub mod trays;
 
 use crate::input::Input;
 use crate::table::Fault;

@@ -1,8 +1,10 @@
-//! Document 01's worked codes, C1 to C12, and a record by hand: of the reference, and of the engine beside it.
+//! Document 01's worked codes, C1 to C12, quick repairs of document 02 and a record by hand: of the reference, and of the engine beside it.
 
-use calls::cards::card_of;
+use calls::cards::{card_of, card_of_size};
+use calls::choice::Choice;
 use calls::input::{bytes_of, Input, Told};
 use calls::lent::Lent;
+use calls::reference::trays;
 use calls::table::TABLE;
 
 /// The call's answer and what it writes.
@@ -102,4 +104,47 @@ fn a_record_by_hand() {
     worked("record_body", body(1), 16, Vec::new());
     worked("record_body", body(2), 0, vec![bytes_of(&[56, 2], usize::to_le_bytes)]);
     worked("record_body", body(3), 9, Vec::new());
+}
+
+/// Document 02, request [1], on C7's stripe: set 3 goes disk 0 by check 2 and disk 1 by check 0, set 7 sticks at once, and of set 49 two steps leave
+/// disk 5. The budget is the tray's.
+#[test]
+fn quick_repairs() {
+    let whole = [0x11, 0x22, 0x44, 0x88, 0x77, 0xBB, 0xDD];
+    let repair = |sets: &[u32], budget, steps: u64, left: &[u32], tray: &[u8]| {
+        let mut before: Vec<u8> = whole.repeat(sets.len());
+        for (at, byte) in before.iter_mut().enumerate() {
+            *byte &= if sets[at / 7] >> (at % 7) & 1 == 1 { 0 } else { 0xff };
+        }
+        let mut places = [0; 8];
+        places[..left.len()].copy_from_slice(left);
+        let (card, sets) = (card_of(4, 3, &[7, 11, 13]), sets.to_vec());
+        let input = Input { card, strip_len: 1, sets, budget, stripe: before, ..Input::default() };
+        worked("quick_repair", input, 256 * steps, vec![tray.to_vec(), bytes_of(&places, u32::to_le_bytes)]);
+    };
+    repair(&[3], 100, 2, &[0], &whole);
+    repair(&[3], 1, 1, &[2], &[0x11, 0, 0x44, 0x88, 0x77, 0xBB, 0xDD]);
+    repair(&[3], 0, 0, &[3], &[0, 0, 0x44, 0x88, 0x77, 0xBB, 0xDD]);
+    repair(&[7], 100, 0, &[7], &[0, 0, 0, 0x88, 0x77, 0xBB, 0xDD]);
+    repair(&[49], 2, 2, &[32], &[0x11, 0x22, 0x44, 0x88, 0x77, 0, 0xDD]);
+    let two = [&whole[..], &[0x11, 0, 0x44, 0x88, 0x77, 0xBB, 0xDD]].concat();
+    repair(&[3, 3], 3, 3, &[0, 2], &two);
+    // survivors of no content: check 0 gives 0x10, checks 1 and 2 would give 0x11
+    let (card, stripe) = (card_of(4, 3, &[7, 11, 13]), vec![0, 0x22, 0x44, 0x88, 0x76, 0xBB, 0xDD]);
+    let input = Input { card, strip_len: 1, sets: vec![1], budget: 9, stripe, ..Input::default() };
+    worked("quick_repair", input, 256, vec![vec![0x10, 0x22, 0x44, 0x88, 0x76, 0xBB, 0xDD], vec![0; 32]]);
+}
+
+/// Eight stripes of 32 disks with the longest strips, more than is lent otherwise.
+#[test]
+fn largest_tray() {
+    let mut choice = Choice::named("largest tray");
+    let card = card_of_size(&mut choice, 16, 16);
+    let sets: Vec<u32> = (0..8).map(|stripe| 1 << stripe | 0x8000_0100).collect();
+    let before = choice.bytes(8 * 32 * 65536);
+    let (steps, left, tray) = trays::quick_repair(&card, 65536, &sets, usize::MAX, &before).expect("a tray");
+    let mut now = before;
+    let repair = bridgecrumb::quick_repair(&card, 65536, &sets, usize::MAX, &mut now).expect("a tray");
+    assert_eq!((repair.steps, repair.left.to_vec()), (steps, left));
+    assert!(steps > 0 && now == tray);
 }
