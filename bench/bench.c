@@ -5,6 +5,7 @@ int main(void)
 {
     bench_lists();
     bench_stripes();
+    bench_trays();
     bench_records();
     return 0;
 }
