@@ -59,23 +59,23 @@ pub fn card_of_size(choice: &mut Choice, k: usize, m: usize) -> Vec<u8> {
     card_of(k, m, &any_columns(choice, k, m))
 }
 
-/// A good card of up to so many data and as many parity disks; one in 16 has as many of both.
-pub fn good_card(choice: &mut Choice, largest: usize) -> Vec<u8> {
+/// A good card of up to so many data and parity disks; one in 16 has as many of both.
+pub fn good_card(choice: &mut Choice, most_k: usize, most_m: usize) -> Vec<u8> {
     let (k, m) = match choice.below(16) {
-        0 => (largest, largest),
-        _ => (1 + choice.below(largest), 1 + choice.below(largest)),
+        0 => (most_k, most_m),
+        _ => (1 + choice.below(most_k), 1 + choice.below(most_m)),
     };
     card_of_size(choice, k, m)
 }
 
-/// A card of up to so many data and as many parity disks, or one with one or two faults, or any bytes.
-pub fn any_card(choice: &mut Choice, largest: usize) -> Vec<u8> {
+/// A card of up to so many data disks, or one with one or two faults, or any bytes.
+pub fn any_card(choice: &mut Choice, most_k: usize) -> Vec<u8> {
     let kind = choice.below(8);
     if kind == 0 {
         let len = choice.below(40);
         return choice.bytes(len);
     }
-    let mut card = good_card(choice, if kind < 4 { largest.min(4) } else { largest });
+    let mut card = if kind < 4 { good_card(choice, 4, 4) } else { good_card(choice, most_k, 16) };
     if kind == 1 {
         for _ in 0..1 + choice.below(2) {
             damage(choice, &mut card);

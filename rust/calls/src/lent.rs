@@ -1,5 +1,5 @@
-//! Buffers that are lent to a call: each begins or ends at a closed page, and beside its other end stand guarding bytes. Pages are closed
-//! by the system's own calls, which Linux has as declared here.
+//! Buffers that are lent to a call: each begins or ends at a closed page or stands at any place between, and beside its open ends stand
+//! guarding bytes. Pages are closed by the system's own calls, which Linux has as declared here.
 
 use std::ffi::c_void;
 use std::slice;
@@ -28,10 +28,30 @@ fn as_bytes<T: Plain>(numbers: &[T]) -> &[u8] {
     unsafe { slice::from_raw_parts(numbers.as_ptr().cast(), std::mem::size_of_val(numbers)) }
 }
 
+/// Where buffers stand in their open pages: at the front, at the end, or behind a guard and so many numbers more.
+#[derive(Clone, Copy, Debug, PartialEq, Eq)]
+pub enum Place {
+    Front,
+    End,
+    Shifted(usize),
+}
+
+impl Place {
+    /// Each place in turn.
+    pub fn of_turn(turn: usize) -> Place {
+        match turn % 3 {
+            0 => Place::Front,
+            1 => Place::End,
+            _ => Place::Shifted(turn / 3 % 16),
+        }
+    }
+}
+
 /// Open pages between closed ones; those behind are as many, so that the end of what is lent may stand on them.
 struct Room {
     open: *mut u8,
-    at: *mut u8,
+    /// How many bytes stand before what is lent.
+    before: usize,
     /// What was lent.
     content: Vec<u8>,
     may_be_written: bool,
@@ -41,7 +61,7 @@ struct Room {
 pub struct Lent {
     rooms: Vec<Room>,
     used: usize,
-    at_front: bool,
+    place: Place,
     filling: Vec<u8>,
 }
 
@@ -53,42 +73,44 @@ impl Room {
             assert_ne!(start as isize, -1, "mmap");
             let open = start.cast::<u8>().add(PAGE);
             assert_eq!(mprotect(open.cast(), ROOM, 3), 0, "mprotect");
-            Room { open, at: open, content: Vec::new(), may_be_written: false }
+            Room { open, before: 0, content: Vec::new(), may_be_written: false }
         }
     }
 
-    fn guard(&self, at_front: bool) -> *mut u8 {
-        if at_front {
-            self.at.wrapping_add(self.content.len())
-        } else {
-            self.at.wrapping_sub(GUARD)
-        }
+    fn at(&self) -> *mut u8 {
+        self.open.wrapping_add(self.before)
     }
 
-    fn lend(&mut self, content: &[u8], at_front: bool, may_be_written: bool) {
-        assert!(content.len() + GUARD <= ROOM, "{} bytes don't go into a room", content.len());
-        let before = if at_front { 0 } else { ROOM - content.len() };
-        self.at = self.open.wrapping_add(before);
+    /// The guards before and behind the content, where there is room for one.
+    fn guards(&self) -> impl Iterator<Item = *mut u8> {
+        let end = self.before + self.content.len();
+        let before = self.before.checked_sub(GUARD);
+        let behind = if end + GUARD <= ROOM { Some(end) } else { None };
+        let open = self.open;
+        before.into_iter().chain(behind).map(move |from| open.wrapping_add(from))
+    }
+
+    fn lend(&mut self, content: &[u8], before: usize, may_be_written: bool) {
+        self.before = before;
         self.content.clear();
         self.content.extend_from_slice(content);
         self.may_be_written = may_be_written;
-        // SAFETY: content and guard lie in the room's open pages
+        // SAFETY: content and guards lie in the room's open pages
         unsafe {
-            self.at.copy_from_nonoverlapping(content.as_ptr(), content.len());
-            self.guard(at_front).write_bytes(GUARDING, GUARD);
+            self.at().copy_from_nonoverlapping(content.as_ptr(), content.len());
+            self.guards().for_each(|guard| guard.write_bytes(GUARDING, GUARD));
         }
     }
 
     fn now(&self) -> &[u8] {
         // SAFETY: the content lies in the room's open pages, which are never closed
-        unsafe { slice::from_raw_parts(self.at, self.content.len()) }
+        unsafe { slice::from_raw_parts(self.at(), self.content.len()) }
     }
 
     /// What is wrong where this front and the content behind it should stand.
-    fn difference(&self, front: &[u8], at_front: bool) -> Option<String> {
-        // SAFETY: the guard lies in the room's open pages
-        let guard = unsafe { slice::from_raw_parts(self.guard(at_front), GUARD) };
-        if guard != [GUARDING; GUARD] {
+    fn difference(&self, front: &[u8]) -> Option<String> {
+        // SAFETY: guards lie in the room's open pages
+        if self.guards().any(|guard| unsafe { slice::from_raw_parts(guard, GUARD) } != [GUARDING; GUARD]) {
             return Some("a byte beside it has changed".to_string());
         }
         let (now, behind) = (self.now(), &self.content[front.len()..]);
@@ -104,44 +126,50 @@ impl Room {
 impl Lent {
     pub fn new() -> Lent {
         let filling = (0..ROOM).map(|at| (at * 167 + 13) as u8).collect();
-        Lent { rooms: (0..ROOMS).map(|_| Room::new()).collect(), used: 0, at_front: false, filling }
+        Lent { rooms: (0..ROOMS).map(|_| Room::new()).collect(), used: 0, place: Place::End, filling }
     }
 
-    /// The next call's buffers begin at closed pages, or end at them.
-    pub fn begin(&mut self, at_front: bool) {
+    /// The next call's buffers stand there.
+    pub fn begin(&mut self, place: Place) {
         self.used = 0;
-        self.at_front = at_front;
+        self.place = place;
     }
 
     /// The next room, with this content.
-    fn next(&mut self, content: &[u8], may_be_written: bool) -> *mut u8 {
+    fn next<T: Plain>(&mut self, content: &[u8], may_be_written: bool) -> *mut u8 {
+        assert!(content.len() + PAGE <= ROOM, "{} bytes don't go into a room", content.len());
+        let before = match self.place {
+            Place::Front => 0,
+            Place::End => ROOM - content.len(),
+            Place::Shifted(by) => GUARD + by * std::mem::size_of::<T>(),
+        };
         self.used += 1;
         let room = &mut self.rooms[self.used - 1];
-        room.lend(content, self.at_front, may_be_written);
-        room.at
+        room.lend(content, before, may_be_written);
+        room.at()
     }
 
     /// The next room, with other bytes at each place.
     fn next_output<T: Plain>(&mut self, len: usize) -> *mut u8 {
         let filling = std::mem::take(&mut self.filling);
-        let at = self.next(&filling[..len * std::mem::size_of::<T>()], true);
+        let at = self.next::<T>(&filling[..len * std::mem::size_of::<T>()], true);
         self.filling = filling;
         at
     }
 
     /// A buffer of length 0 is null, or points at a closed page.
     fn pointer<T>(&self, at: *mut u8, len: usize) -> (*mut T, usize) {
-        (if len == 0 && self.at_front { std::ptr::null_mut() } else { at.cast() }, len)
+        (if len == 0 && self.place == Place::Front { std::ptr::null_mut() } else { at.cast() }, len)
     }
 
     pub fn read<T: Plain>(&mut self, content: &[T]) -> (*const T, usize) {
-        let at = self.next(as_bytes(content), false);
+        let at = self.next::<T>(as_bytes(content), false);
         let (at, len) = self.pointer(at, content.len());
         (at, len)
     }
 
     pub fn write<T: Plain>(&mut self, content: &[T]) -> (*mut T, usize) {
-        let at = self.next(as_bytes(content), true);
+        let at = self.next::<T>(as_bytes(content), true);
         self.pointer(at, content.len())
     }
 
@@ -156,19 +184,19 @@ impl Lent {
         if closed == 0 {
             return self.read(content);
         }
-        self.at_front = false;
-        (self.next(&content[..content.len() - closed], false), content.len())
+        self.place = Place::End;
+        (self.next::<u8>(&content[..content.len() - closed], false), content.len())
     }
 
     /// The same as slices, for a safe function. No two of them share a room until `begin`.
     pub fn slice<'a, T: Plain>(&mut self, content: &[T]) -> &'a [T] {
-        let at = self.next(as_bytes(content), false);
-        // SAFETY: as many numbers were copied there, and the pages stay open; they are aligned, since pages are
+        let at = self.next::<T>(as_bytes(content), false);
+        // SAFETY: as many numbers were copied there, and the pages stay open; they are aligned, since pages and guards are
         unsafe { slice::from_raw_parts(at.cast(), content.len()) }
     }
 
     pub fn slice_mut<'a, T: Plain>(&mut self, content: &[T]) -> &'a mut [T] {
-        let at = self.next(as_bytes(content), true);
+        let at = self.next::<T>(as_bytes(content), true);
         // SAFETY: as in `slice`; nothing else points into this room
         unsafe { slice::from_raw_parts_mut(at.cast(), content.len()) }
     }
@@ -183,7 +211,7 @@ impl Lent {
     pub fn written(&mut self, n: usize) -> &mut [u8] {
         let room = self.rooms[..self.used].iter_mut().filter(|room| room.may_be_written).nth(n).expect("such a buffer");
         // SAFETY: the content lies in the room's open pages
-        unsafe { slice::from_raw_parts_mut(room.at, room.content.len()) }
+        unsafe { slice::from_raw_parts_mut(room.at(), room.content.len()) }
     }
 
     /// The n-th buffer that is only read.
@@ -196,7 +224,7 @@ impl Lent {
         let mut fronts = fronts.iter();
         for (number, room) in self.rooms[..self.used].iter().enumerate() {
             let front = if room.may_be_written { fronts.next().map_or(&[][..], |front| front) } else { &[] };
-            if let Some(difference) = room.difference(front, self.at_front) {
+            if let Some(difference) = room.difference(front) {
                 return Some(format!("lent buffer {number}: {difference}"));
             }
         }

@@ -14,3 +14,4 @@ mod rows;
 pub mod stripes;
 pub mod table;
 pub mod tried;
+pub mod whole;

@@ -2,7 +2,7 @@
 //! Without it nothing stands between them.
 
 use crate::input::{bytes_of, Input};
-use crate::lent::Lent;
+use crate::lent::{Lent, Place};
 use crate::rows::{cards, records, sets, strips, trays};
 use crate::table::{Engine, Row, TABLE};
 use std::env;
@@ -41,7 +41,7 @@ const PLANTED: [Planted; 34] = [
     // a refusal writes k
     Archive("card_read", |input, lent| after(cards::READ.engine, input, lent, 4, |lent, _| lent.written(0)[0] = 9)),
     // 7 before 5
-    Archive("card_write", |input, lent| instead(cards::WRITE.engine, input, lent, 5, input.out_len != 2 + 2 * input.m, 7)),
+    Archive("card_write", |input, lent| instead(cards::WRITE.engine, input, lent, 5, input.out_len != input.m.wrapping_mul(2).wrapping_add(2), 7)),
     // alike where the lists are only equally long
     Archive("alike", |input, lent| instead(cards::ALIKE.engine, input, lent, 0, equally_long(input), 256)),
     // the last byte of some lengths is left out
@@ -103,7 +103,7 @@ const PLANTED: [Planted; 34] = [
     // a lost strip's offset is not looked at
     Archive("record_read", |input, lent| match (records::READ.engine)(input, lent) {
         14 => {
-            lent.begin(false);
+            lent.begin(Place::End);
             (records::READ.engine)(&without_offsets(input), lent)
         }
         answer => answer,

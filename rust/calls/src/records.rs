@@ -4,6 +4,7 @@ use crate::cards::{any_set, c1, card_of, good_card};
 use crate::choice::Choice;
 use crate::input::Input;
 use crate::reference::{read_card, records};
+use crate::stripes::LONG;
 
 /// The record of a card with any bytes in its strips.
 pub fn record_of(choice: &mut Choice, card: &[u8], strip_len: usize, lost: u32) -> Vec<u8> {
@@ -29,11 +30,13 @@ pub fn strips_at(file: &[u8]) -> usize {
 /// A good record, damaged or not; where it isn't, its strips may stand on closed pages.
 pub fn any_file(choice: &mut Choice) -> Input {
     let kind = choice.below(16);
-    let largest = choice.pick(&[2, 4, 16]);
-    let card = good_card(choice, largest);
+    let most = choice.pick(&[2, 4, 16]);
+    let card = good_card(choice, most, most);
     let lost = any_set(choice, &card) & (((1u64 << (card[0] + card[1])) - 1) as u32);
-    let strip_len = match choice.strip_len {
+    let chosen = choice.strip_len;
+    let strip_len = match chosen {
         Some(strip_len) => strip_len,
+        None if choice.rare && choice.one_in(8) => choice.pick(&LONG),
         None => 1 + choice.below(if kind == 2 { 300 } else { 20 }),
     };
     let mut file = record_of(choice, &card, strip_len, lost);
@@ -151,7 +154,7 @@ pub fn every_damage(file: &[u8], choice: &mut Choice, then: &mut dyn FnMut(&[u8]
             then(&damaged);
         }
         damaged[at] = file[at];
-        for other in (0..at).step_by(2) {
+        for other in 0..at {
             for (one, two) in [(1, 1), (1, 255), (255, 1), (3, 3)] {
                 damaged[at] = file[at].wrapping_add(one);
                 damaged[other] = file[other].wrapping_add(two);
@@ -180,7 +183,7 @@ pub fn every_damage(file: &[u8], choice: &mut Choice, then: &mut dyn FnMut(&[u8]
 /// can be taken for the entry that it lacks.
 pub fn other_counts(choice: &mut Choice, then: &mut dyn FnMut(&[u8])) {
     for _ in 0..40 {
-        let card = good_card(choice, 16);
+        let card = good_card(choice, 16, 16);
         for entries in 1..=40 {
             let mut file = with_entries(&card, 1 + choice.below(3), entries);
             then(&file);

@@ -2,7 +2,7 @@
 
 use crate::choice::Choice;
 use crate::input::{Input, Told};
-use crate::lent::Lent;
+use crate::lent::{Lent, Place};
 use crate::rows::{cards, records, sets, strips, trays};
 
 /// A call.
@@ -54,28 +54,28 @@ pub const TABLE: [Row; 12] = [
 
 impl Row {
     /// Fails where the archive's call or the safe function answers or writes anything else than the reference. Answers what was expected.
-    pub fn try_input(&self, input: &Input, lent: &mut Lent, at_front: bool) -> u64 {
+    pub fn try_input(&self, input: &Input, lent: &mut Lent, place: Place) -> u64 {
         let told = (self.reference)(input);
-        self.compare(self.engine, "the archive", input, &told, lent, at_front);
+        self.compare(self.engine, "the archive", input, &told, lent, place);
         if input.closed == 0 {
-            self.compare(self.safe, "the safe function", input, &told, lent, at_front);
+            self.compare(self.safe, "the safe function", input, &told, lent, place);
         }
         told.answer
     }
 
-    fn compare(&self, engine: Engine, whose: &str, input: &Input, told: &Told, lent: &mut Lent, at_front: bool) {
-        lent.begin(at_front);
+    fn compare(&self, engine: Engine, whose: &str, input: &Input, told: &Told, lent: &mut Lent, place: Place) {
+        lent.begin(place);
         let answer = engine(input, lent);
         let difference = lent.difference(&told.written);
         if answer != told.answer || difference.is_some() {
             let said = |answer: u64| (answer % 256, answer / 256);
             panic!(
-                "{}, {whose}: answered {:?}, and {:?} is wanted; {}; buffers {} a closed page; for {:.2000}",
+                "{}, {whose}: answered {:?}, and {:?} is wanted; {}; buffers at {:?}; for {:.2000}",
                 self.name,
                 said(answer),
                 said(told.answer),
                 difference.unwrap_or_else(|| "every lent byte is right".to_string()),
-                if at_front { "begin at" } else { "end at" },
+                place,
                 format!("{input:?}"),
             );
         }

@@ -1,8 +1,8 @@
-//! A libFuzzer target over the table of calls. An input chooses a row, the kind of closed pages, and the arguments. What guides the search are
+//! A libFuzzer target over the table of calls. An input chooses a row, where buffers stand, and the arguments. What guides the search are
 //! the branches of this target and of the reference; the archive has none that are counted.
 
 use calls::choice::Choice;
-use calls::lent::Lent;
+use calls::lent::{Lent, Place};
 use calls::planted;
 use calls::table::Row;
 use std::cell::RefCell;
@@ -20,10 +20,10 @@ pub unsafe extern "C" fn LLVMFuzzerTestOneInput(bytes: *const u8, count: usize) 
     LENT.with(|lent| {
         let mut lent = lent.borrow_mut();
         let (lent, rows) = lent.get_or_insert_with(|| (Lent::new(), planted::table().to_vec()));
-        let (row, at_front) = (rows[choice.below(rows.len())], choice.one_in(2));
+        let (row, place) = (rows[choice.below(rows.len())], Place::of_turn(choice.below(48)));
         let input = (row.any)(&mut choice);
         if choice.rare || !(row.heavy)(&input) {
-            row.try_input(&input, lent, at_front);
+            row.try_input(&input, lent, place);
         }
     });
     0

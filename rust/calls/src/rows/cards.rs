@@ -167,8 +167,8 @@ pub fn large(card: &[u8]) -> bool {
     matches!(card.first(), Some(11..=16))
 }
 
-/// The largest k and m of a card whose data words are gone through.
-pub fn largest(choice: &Choice) -> usize {
+/// The most data disks of a card whose data words are gone through.
+pub fn most_k(choice: &Choice) -> usize {
     if choice.rare {
         16
     } else {
@@ -177,9 +177,9 @@ pub fn largest(choice: &Choice) -> usize {
 }
 
 fn any_two(choice: &mut Choice) -> Input {
-    let largest = largest(choice).min(12);
-    let first = any_card(choice, largest);
-    let second = if choice.one_in(5) { any_card(choice, largest) } else { near(choice, &first) };
+    let most_k = most_k(choice);
+    let first = any_card(choice, most_k);
+    let second = if choice.one_in(5) { any_card(choice, most_k) } else { near(choice, &first) };
     Input { card: first, second, ..Input::default() }
 }
 

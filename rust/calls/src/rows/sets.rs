@@ -1,6 +1,6 @@
 //! The calls on sets of disks.
 
-use super::cards::{large, largest};
+use super::cards::{large, most_k};
 use super::{card_then, set_faults, ways};
 use crate::cards::{any_card, any_disk, any_set, c1, disks_of, every_card};
 use crate::choice::Choice;
@@ -12,7 +12,7 @@ use bridgecrumb::ffi;
 pub const VERDICT: Row = Row {
     name: "verdict",
     any: |choice| {
-        let card = any_card(choice, largest(choice));
+        let card = any_card(choice, most_k(choice));
         Input { set: any_set(choice, &card), card, ..Input::default() }
     },
     every: every_verdict,
@@ -46,7 +46,7 @@ fn every_verdict(n: usize, _: &mut Choice, then: &mut dyn FnMut(&Input)) {
 pub const LIST: Row = Row {
     name: "list",
     any: |choice| {
-        let card = any_card(choice, largest(choice));
+        let card = any_card(choice, most_k(choice));
         let count = if large(&card) && !choice.rare { 3 } else { count_of(&card) };
         Input { out_len: choice.length(count), card, ..Input::default() }
     },
@@ -93,7 +93,7 @@ fn count_of(card: &[u8]) -> usize {
 pub const EQUATIONS: Row = Row {
     name: "equations",
     any: |choice| {
-        let card = any_card(choice, largest(choice));
+        let card = any_card(choice, most_k(choice));
         let disk = any_disk(choice, disks_of(&card));
         let count = if many_parities(&card) && !choice.rare { 3 } else { count_of_disk(&card, disk) };
         Input { out_len: choice.length(count), card, disk, ..Input::default() }

@@ -1,12 +1,12 @@
 //! The calls on stripes.
 
-use super::cards::{large, largest};
+use super::cards::{large, most_k};
 use super::{card_then, set_faults, strip_len_faults, stripe_faults, ways};
-use crate::cards::{any_card, any_set, c1, every_card};
+use crate::cards::{any_card, any_set, c1, disks_of, every_card};
 use crate::choice::Choice;
 use crate::input::{code, Input, Told};
 use crate::reference::{outline, strips};
-use crate::stripes::{any_strip_len, any_stripe, lose, COMMON_LEN};
+use crate::stripes::{any_strip_len, any_stripe, any_stripe_len, lose, COMMON_LEN};
 use crate::table::Row;
 use bridgecrumb::ffi;
 
@@ -29,7 +29,9 @@ pub const ENCODE: Row = Row {
     any: |choice| {
         let card = any_card(choice, 16);
         let strip_len = any_strip_len(choice);
-        Input { stripe: any_stripe(choice, &card, strip_len, 0), card, strip_len, ..Input::default() }
+        // any bytes in the parity strips too: they are to be written
+        let len = any_stripe_len(choice, disks_of(&card), strip_len);
+        Input { stripe: choice.bytes(len), card, strip_len, ..Input::default() }
     },
     every: |n, choice, then| {
         for card in every_card(n.min(DISKS)).into_iter().filter(|_| n <= DISKS) {
@@ -62,7 +64,7 @@ pub const ENCODE: Row = Row {
 pub const REBUILD: Row = Row {
     name: "rebuild",
     any: |choice| {
-        let card = any_card(choice, largest(choice));
+        let card = any_card(choice, most_k(choice));
         let strip_len = any_strip_len(choice);
         let set = any_set(choice, &card);
         Input { stripe: any_stripe(choice, &card, strip_len, set), card, strip_len, set, ..Input::default() }

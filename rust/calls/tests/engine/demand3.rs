@@ -122,7 +122,7 @@ fn small_cards() {
 
 fn some_cards(name: &str, cards: usize, largest: usize, sets: usize) {
     let mut choice = Choice::named(name);
-    let cards: Vec<Vec<u8>> = (0..cards).map(|_| good_card(&mut choice, largest)).collect();
+    let cards: Vec<Vec<u8>> = (0..cards).map(|_| good_card(&mut choice, largest, largest)).collect();
     try_cards(name, &cards, |choice, code, lists| (0..sets).map(|_| any_set(choice, code, lists)).collect());
 }
 

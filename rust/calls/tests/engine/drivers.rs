@@ -1,13 +1,14 @@
-//! The drivers, each over all rows of the table: chosen arguments, all arguments of small codes, strips of each length, and faults alone and
-//! together. The archive's call and the safe function get the same, their buffers at both kinds of closed pages in turn.
+//! The drivers, each over all rows of the table: chosen arguments, all arguments of small codes, the largest codes, strips of each length,
+//! and faults alone and together. The archive's call and the safe function get the same, their buffers at each place in turn.
 
 use calls::choice::{seed, Choice};
 use calls::input::Input;
-use calls::lent::Lent;
+use calls::lent::{Lent, Place};
 use calls::planted;
 use calls::stripes::LONG;
 use calls::table::{Fault, Row};
 use calls::tried::Tried;
+use calls::whole::{largest, of_length};
 use std::sync::atomic::{AtomicUsize, Ordering};
 use std::thread;
 
@@ -27,7 +28,7 @@ struct Driver {
 impl Driver {
     fn try_input(&mut self, place: usize, row: &Row, input: &Input) -> u64 {
         self.calls += 1;
-        let answer = row.try_input(input, &mut self.lent, self.calls % 2 == 0);
+        let answer = row.try_input(input, &mut self.lent, Place::of_turn(self.calls));
         self.tried.count(place, answer);
         answer
     }
@@ -72,14 +73,31 @@ fn chosen() {
 #[test]
 fn strip_lengths() {
     drive("each strip length", |driver, place, row| {
+        let good = (row.good)();
+        if good.strip_len == 0 && good.file.is_empty() {
+            return;
+        }
         for strip_len in (1..=600).chain(LONG) {
+            for (at, input) in of_length(&mut driver.choice, strip_len).iter().enumerate() {
+                let answer = driver.try_input(place, row, input);
+                assert!(answer % 256 == 0 || (1..16).contains(&at), "{}: a whole stripe is refused", row.name);
+            }
             for _ in 0..8 {
                 driver.choice.rare = driver.choice.one_in(40);
                 driver.choice.strip_len = Some(strip_len);
                 let input = (row.any)(&mut driver.choice);
-                if input.strip_len > 0 || !input.file.is_empty() {
-                    driver.try_input(place, row, &input);
-                }
+                driver.try_input(place, row, &input);
+            }
+        }
+    });
+}
+
+#[test]
+fn largest_codes() {
+    drive("largest codes", |driver, place, row| {
+        for (k, m) in [(16, 16), (16, 1), (1, 16), (16, 8), (8, 16)] {
+            for input in largest(&mut driver.choice, k, m) {
+                driver.try_input(place, row, &input);
             }
         }
     });

@@ -1,9 +1,10 @@
 //! Document 01's worked codes, C1 to C12, quick repairs of document 02 and a record by hand: of the reference, and of the engine beside it.
 
+use bridgecrumb::Error;
 use calls::cards::{card_of, card_of_size};
 use calls::choice::Choice;
 use calls::input::{bytes_of, Input, Told};
-use calls::lent::Lent;
+use calls::lent::{Lent, Place};
 use calls::reference::trays;
 use calls::table::TABLE;
 
@@ -12,7 +13,7 @@ fn worked(name: &str, input: Input, answer: u64, written: Vec<Vec<u8>>) {
     let row = TABLE.iter().find(|row| row.name == name).expect("a call of this name");
     assert_eq!((row.reference)(&input), Told { answer, written }, "{name}, {input:?}");
     let mut lent = Lent::new();
-    [false, true].iter().for_each(|&at_front| assert_eq!(row.try_input(&input, &mut lent, at_front), answer));
+    (0..3).for_each(|turn| assert_eq!(row.try_input(&input, &mut lent, Place::of_turn(turn)), answer));
 }
 
 /// The list and the vector of a code, which is not alike to C1's with its last column changed.
@@ -147,4 +148,37 @@ fn largest_tray() {
     let repair = bridgecrumb::quick_repair(&card, 65536, &sets, usize::MAX, &mut now).expect("a tray");
     assert_eq!((repair.steps, repair.left.to_vec()), (steps, left));
     assert!(steps > 0 && now == tray);
+}
+
+/// The names of the refusals have the documents' numbers, and two of them a value.
+#[test]
+fn numbers_and_values() {
+    let all = [
+        Error::CardShort,
+        Error::DataCount,
+        Error::ParityCount,
+        Error::CardLength,
+        Error::Column(7),
+        Error::StripLength,
+        Error::BufferLength,
+        Error::OutsideSet,
+        Error::NoDisk,
+        Error::ListShort(8),
+        Error::Fatal,
+        Error::Inconsistent,
+        Error::Mark,
+        Error::Contents,
+        Error::FileLength,
+        Error::NoRoom,
+        Error::StripeCount,
+    ];
+    for (error, number) in all.iter().zip(1..) {
+        let value = match number {
+            5 => Some(7),
+            10 => Some(8),
+            _ => None,
+        };
+        assert_eq!((error.number(), error.value()), (number, value));
+        assert!(!error.to_string().is_empty());
+    }
 }
