@@ -13,7 +13,7 @@ use std::sync::atomic::{AtomicUsize, Ordering};
 use std::thread;
 
 /// Chosen arguments of each call.
-const CHOSEN: usize = 150_000;
+const CHOSEN: usize = 100_000;
 /// All arguments of codes of up to so many disks.
 const DISKS: usize = 7;
 
@@ -82,7 +82,7 @@ fn strip_lengths() {
                 let answer = driver.try_input(place, row, input);
                 assert!(answer % 256 == 0 || (1..16).contains(&at), "{}: a whole stripe is refused", row.name);
             }
-            for _ in 0..8 {
+            for _ in 0..4 {
                 driver.choice.rare = driver.choice.one_in(40);
                 driver.choice.strip_len = Some(strip_len);
                 let input = (row.any)(&mut driver.choice);
