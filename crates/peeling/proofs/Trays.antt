@@ -21,14 +21,6 @@ use Rattle.peeling.proofs.Peels.{steps-count, stuck-below-budget, peeli
 
 -- ---- steps
 
-pub tray-count : TrayCount
-unfolding trayPeeled total lefts sizes
-tray-count C L budget [] tray = refl
-tray-count C L budget (S ∷ Ss) tray =
-    let r = peeled C L budget S (take (disks C * L) tray) in
-    let e = steps-count C L budget S (take (disks C * L) tray) in
-    let q = tray-count C L (budget - r .steps) Ss (drop (disks C * L) tray) in omega arith
-
 smaller-add : (b r q : ℕ) → smaller b r + smaller (b - smaller b r) q ≡ smaller b (r + q)
 smaller-add b r q = go (below-or b r) (below-or b (r + q))
   where
@@ -53,6 +45,14 @@ tray-cut C L b c (S ∷ Ss) tray h =
     ap (λ (x : ℕ). r .steps + x) q
     ∙ ap (λ (x : ℕ). x + smaller (b - x) (total (trayPeeled C L (c - s .steps) Ss (drop w tray)))) e
     ∙ smaller-add b (s .steps) (total (trayPeeled C L (c - s .steps) Ss (drop w tray)))
+
+pub tray-count : TrayCount
+unfolding trayPeeled total lefts sizes
+tray-count C L budget [] tray = refl
+tray-count C L budget (S ∷ Ss) tray =
+    let r = peeled C L budget S (take (disks C * L) tray) in
+    let e = steps-count C L budget S (take (disks C * L) tray) in
+    let q = tray-count C L (budget - r .steps) Ss (drop (disks C * L) tray) in omega arith
 
 pub tray-enough : TrayEnough
 unfolding trayPeeled total sizes

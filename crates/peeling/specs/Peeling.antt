@@ -1,5 +1,5 @@
 -- Document 02, request [1]: quick repair of one stripe, step by step. In the field's words, peeling.
--- A check of the code is a parity disk with its data disks (`check`, flat/specs/Spans.antt).
+-- A check of the code is a parity disk with its data disks (`check`, flat/specs/Checks.antt).
 -- Assumes nothing.
 use mathlib.Core.Bool.{Bool}
 use mathlib.Core.List.{List}
