@@ -1,5 +1,6 @@
 #!/usr/bin/env python3
-"""The listing of a card and the equations of a disk by brute force, straight from document 01's definitions.
+"""The listing of a card and the equations of a disk by brute force, straight from document 01's definitions;
+the vector's length is document 02's.
 
 It shares nothing with the engine: sets are tried one by one, and two data words are compared disk by disk. It is meant for
 codes of some 12 disks at the most.
@@ -85,7 +86,7 @@ def listing(card):
     sizes = [bin(s).count("1") for s in entries]
     lines = [f"code {k} {m}"]
     lines += [f"{size} {s}" for size, s in zip(sizes, entries)]
-    lines.append(" ".join(["vector"] + [str(sizes.count(i)) for i in range(1, m + 1)]))
+    lines.append(" ".join(["vector"] + [str(sizes.count(i)) for i in range(1, m + 2)]))
     return "".join(line + "\n" for line in lines)
 
 

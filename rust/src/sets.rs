@@ -7,7 +7,8 @@ use crate::{ffi, Error};
 pub struct Listing {
     /// How many minimal erasures there are: so many entries of the slice were written.
     pub count: usize,
-    /// Place i - 1 has how many of them hold i disks, for i from 1 to m; the other places are 0.
+    /// Place i - 1 has how many of them hold i disks, for i from 1 to m + 1; the other places are 0. Their
+    /// total is the count.
     pub vector: [usize; 17],
 }
 
@@ -39,7 +40,7 @@ pub fn is_fatal(card: &[u8], set: u32) -> Result<bool, Error> {
 /// let mut list = [0; 16];
 /// let told = bridgecrumb::minimal_erasures(&[4, 3, 7, 0, 11, 0, 13, 0], &mut list)?;
 /// assert_eq!(list[..told.count], [50, 67, 84, 37, 104, 25, 14, 113, 102, 23, 90, 43, 60, 77]);
-/// assert_eq!(told.vector[..3], [0, 0, 7]);
+/// assert_eq!(told.vector[..4], [0, 0, 7, 7]);
 /// # Ok::<(), bridgecrumb::Error>(())
 /// ```
 pub fn minimal_erasures(card: &[u8], out: &mut [u32]) -> Result<Listing, Error> {

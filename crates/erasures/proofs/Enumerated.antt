@@ -16,12 +16,13 @@ use Rattle.flat.specs.Lists.{range, tabulate, filter, orderedBy}
 use Rattle.flat.specs.Cards.{Code, disks}
 use Rattle.flat.specs.Erasures.{erasures, places, vector}
 use Rattle.flat.specs.Spans.{rows, selectors, erasuresByWord}
-use Rattle.flat.proofs.Lists.{length-tabulate, tabulate-cong, map-range}
+use Rattle.flat.proofs.Lists.{tabulate-cong}
 use Rattle.flat.proofs.Rows.{rows-length, rows-indep}
 use Rattle.flat.proofs.Fatal.{word-below}
 use Rattle.flat.proofs.Least.{selectors-out}
 use Rattle.flat.proofs.Members.{In, map-out}
 use Rattle.flat.proofs.ErasuresListed.{erasures-enumerated}
+use Rattle.flat.proofs.Vector.{ofSize, vector-counts}
 use Rattle.minimal_words.specs.Listed.{kept, entry, keptFrom, entries, sizes, listed, tally}
 use Rattle.flat.proofs.Filters.{filter-cong, map-cong}
 use Rattle.flat.proofs.Blocks.{ordered-same, ordered-count}
@@ -30,12 +31,6 @@ use Rattle.minimal_marks.proofs.Entries.{kept-inside, entries-small}
 use Rattle.bases.proofs.Systematic.{rows-systematic}
 
 module _ (C : Code) where
-  pub vector-length : length (vector C) ≡ C .m
-  unfolding vector places
-  vector-length =
-      let count : ℕ → ℕ = λ i. length (filter (λ S. eqb (size S) i) (erasures C)) in
-      ap length (map-range count 1 (C .m)) ∙ length-tabulate (C .m) (λ i. count (1 + i))
-
   -- every word contains the empty set, and loses nothing without it
   entries-rows : entries (rows C) 0 ≡ map (select (rows C)) (selectors (rows C))
   unfolding entries keptFrom selectors entry
@@ -65,14 +60,11 @@ module _ (C : Code) where
         ∙ ap (orderedBy size (suc (disks C))) entries-rows ∙ sym (erasures-enumerated C)
 
     -- the count of size i + 1 is the tally's
-    pub vector-tally : tabulate (C .m) (λ i. getD (tally (rows C) 0 0) ((i + 1) * sizes) 0) ≡ vector C
-    unfolding vector places
+    pub vector-tally : tabulate (C .m + 1) (λ i. getD (tally (rows C) 0 0) ((i + 1) * sizes) 0) ≡ vector C
+    unfolding places
     vector-tally =
-        tabulate-cong (C .m) (λ i. getD (tally (rows C) 0 0) ((i + 1) * sizes) 0) (λ i. count (1 + i))
+        tabulate-cong (C .m + 1) (λ i. getD (tally (rows C) 0 0) ((i + 1) * sizes) 0) (λ i. ofSize C (1 + i))
         (λ i l. tally-sizes (rows C) 0 (i + 1) (omega arith)
         ∙ sym (ordered-count size (entries (rows C) 0) (i + 1) sizes (omega arith))
-        ∙ ap (λ (l : List ℕ). length (filter (λ w. eqb (size w) (i + 1)) l)) (sym (listed-sizes (rows C) 0) ∙ listed-erasures) ∙ ap count (add-comm i 1))
-        ∙ sym (map-range count 1 (C .m))
-      where
-        count : ℕ → ℕ
-        count i = length (filter (λ S. eqb (size S) i) (erasures C))
+        ∙ ap (λ (l : List ℕ). length (filter (λ w. eqb (size w) (i + 1)) l)) (sym (listed-sizes (rows C) 0) ∙ listed-erasures) ∙ ap (ofSize C) (add-comm i 1))
+        ∙ sym (vector-counts C)

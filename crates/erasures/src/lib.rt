@@ -25,8 +25,8 @@ pub enum Listed {
     Short(usize),
 }
 
-// The lister's answer with the vector: place i - 1 has how many entries hold i disks, for i from 1 to m.
-// The other places are 0, and all are where the call is refused.
+// The lister's answer with the vector: place i - 1 has how many entries hold i disks, for i from 1 to
+// m + 1. The other places are 0, and all are where the call is refused.
 pub struct Listing {
     pub answer: Listed,
     pub vector: [usize; 17],
@@ -35,10 +35,11 @@ pub struct Listing {
 // The vector out of the counts of entries by key. The mask is empty, so that each size is one key.
 fn vector(counts: [usize; KEYS], m: usize) -> [usize; 17]
     requires { ⌜ m ≤ 16 ⌝ }
-    ensures { λ r. ⌜ r ≡ padded 17 (tabulate m (λ i. getD counts ((i + 1) * sizes) 0)) ⌝ }
+    ensures { λ r. ⌜ r ≡ padded 17 (tabulate (m + 1) (λ i. getD counts ((i + 1) * sizes) 0)) ⌝ }
 {
     let mut out = [0usize; 17];
-    for i in 0..m {
+    let places = m + 1;
+    for i in 0..places {
         out[i] = counts[(i + 1) * SIZES];
     }
     out

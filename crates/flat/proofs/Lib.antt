@@ -17,6 +17,7 @@ pub mod Blocks
 pub mod Totals
 pub mod Least
 pub mod ErasuresListed
+pub mod Vector
 pub mod CheckWords
 pub mod EquationsListed
 pub mod Verdicts

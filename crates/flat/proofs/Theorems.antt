@@ -16,6 +16,7 @@ use Rattle.flat.proofs.Duality as duality
 use Rattle.flat.proofs.Undetermined as unions
 use Rattle.flat.proofs.Order.{sorted-at}
 use Rattle.flat.proofs.ErasuresListed as listed
+use Rattle.flat.proofs.Vector as vectors
 use Rattle.flat.proofs.EquationsListed as equated
 use Rattle.flat.proofs.Verdicts as verdicts
 use Rattle.flat.proofs.Columns as columns
@@ -82,6 +83,15 @@ fatal-holds-listed = listed.fatal-listed
 pub erasures-enumerated : Theorems.ErasuresEnumerated
 erasures-enumerated = listed.erasures-enumerated
 
+pub entry-sizes : Theorems.EntrySizes
+entry-sizes = vectors.entry-sizes
+
+pub vector-total : Theorems.VectorTotal
+vector-total C = (vectors.vector-length C, vectors.vector-total C)
+
+pub vector-answered : Theorems.VectorAnswered
+vector-answered = vectors.vector-answered
+
 pub equations-exact : Theorems.EquationsExact
 equations-exact C d E = (equated.equations-out C d E, λ p. equated.equations-in C d E (p .0) (p .1))
 
@@ -103,7 +113,7 @@ no-column-no-equation = columns.no-column-no-equation
 pub minimal-sizes : Theorems.MinimalSizes
 unfolding disks
 minimal-sizes C w = (
-  λ s e. omega (arith, one-left-size (disks C) (rows C) (fatal.word-below C) w s e, spans.rows-length C),
+  vectors.word-size C w,
   λ s e. omega (arith, one-left-size (disks C) (checks C) (λ v t. spans.checks-span C v .0 t .0) w s e, spans.checks-length C),
 )
 

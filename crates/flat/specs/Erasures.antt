@@ -4,7 +4,7 @@
 -- Assumes nothing.
 use mathlib.Core.Bool.{Bool, not, _&&_, _||_}
 use mathlib.Core.List.{List, map}
-use Prim.Native.Nat.{ℕ, suc, _^_}
+use Prim.Native.Nat.{ℕ, suc, _+_, _^_}
 use lib.Dec.{eqb}
 use lib.ListN.{length}
 use Rattle.gf2.specs.Sets.{bit, has, size, _∖_, _⊂_}
@@ -58,9 +58,9 @@ unfolding orderedBy size dataPart filter range disks minimalErasure
 erasures C =
     orderedBy size (suc (disks C)) (orderedBy (dataPart C) (2 ^ C .k) (filter (minimalErasure C) (range 0 (2 ^ disks C))))
 
--- how many places the vector has
+-- how many places the vector has: m + 1 (document 02, request [2])
 unfoldable pub places : Code → ℕ
-places C = C .m
+places C = C .m + 1
 
 -- the vector: for each i from 1 on, how many entries have size i
 unfoldable pub vector : Code → List ℕ

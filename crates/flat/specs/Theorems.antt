@@ -9,11 +9,11 @@ use lib.ListN.{length, getD, take}
 use Rattle.gf2.specs.Sets.{has, size, _⊕_, _⊆_, union, over}
 use Rattle.gf2.specs.Span.{InSpan, Independent}
 use Rattle.gf2.specs.Within.{within}
-use Rattle.flat.specs.Lists.{Bytes, member, padded}
+use Rattle.flat.specs.Lists.{Bytes, sum, member, padded}
 use Rattle.flat.specs.Cards.{Code, code, codeOf, disks, column, setOk, dataPart}
-use Rattle.flat.specs.Erasures.{holdsBit, survivors, fatal, undetermined, undeterminedSet, minimalErasure, erasures}
+use Rattle.flat.specs.Erasures.{holdsBit, survivors, fatal, undetermined, undeterminedSet, minimalErasure, erasures, vector}
 use Rattle.flat.specs.Equations.{equation, minimalEquation, equations}
-use Rattle.flat.specs.Faults.{accepted, cardReport, cardColumns, cardWriteReport, cardWriteBuffer, verdictReport, erasuresReport, erasuresSlice, equationsReport, equationsSlice}
+use Rattle.flat.specs.Faults.{accepted, cardReport, cardColumns, cardWriteReport, cardWriteBuffer, verdictReport, erasuresReport, erasuresVector, erasuresSlice, equationsReport, equationsSlice}
 use Rattle.flat.specs.Spans.{codeword, rows, checks, erasuresByWord, equationsByParities}
 
 -- ---- cards (demand 2)
@@ -125,6 +125,21 @@ FatalHoldsListed = (C : Code) (S : ℕ) → T (fatal C S) ↔ ((R : ℕ) × T (m
 -- It equals the enumeration with one candidate for each data word, kept where one row is left inside its codeword.
 abbrev pub ErasuresEnumerated : Type 0
 ErasuresEnumerated = (C : Code) → erasures C ≡ erasuresByWord C
+
+-- ---- its vector
+
+-- An entry has at least one disk, and at most m + 1.
+abbrev pub EntrySizes : Type 0
+EntrySizes = (C : Code) (S : ℕ) → T (member S (erasures C)) → (1 ≤ size S) × (size S ≤ C .m + 1)
+
+-- So the vector counts them all: it has m + 1 entries, and their total is the list's count.
+abbrev pub VectorTotal : Type 0
+VectorTotal = (C : Code) → (length (vector C) ≡ C .m + 1) × (sum (vector C) ≡ length (erasures C))
+
+-- Of the 17 numbers that the lister answers: where it accepts, their total is the count that it answers, and never 0.
+abbrev pub VectorAnswered : Type 0
+VectorAnswered =
+    (card : List ℕ) (n count : ℕ) → erasuresReport card n ≡ accepted (count ∷ []) → (sum (erasuresVector card n) ≡ count) × (1 ≤ count)
 
 -- ---- the list of equations
 

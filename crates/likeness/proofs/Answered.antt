@@ -3,7 +3,7 @@
 use mathlib.Core.Path.{_≡_, sym, ap, _∙_}
 use mathlib.Core.Bool.{Bool, false}
 use mathlib.Core.List.{List, [], _∷_}
-use Prim.Native.Nat.{ℕ}
+use Prim.Native.Nat.{ℕ, _+_}
 use borrow.Author.Tests.{eq-eqb, ne-eqb}
 use Rattle.flat.specs.Lists.{padded, same}
 use Rattle.flat.specs.Cards.{Code, columnBytes, codeIn}
@@ -14,7 +14,7 @@ use Rattle.card.specs.declared.CardFault.{CardFault}
 use Rattle.card.specs.declared.CardCheck.the-variants.{Bad}
 use Rattle.card.specs.Reports.{faultReport, report as checkReport}
 use Rattle.card.proofs.Callers.{GoodCard, good-with, bad-card}
-use Rattle.erasures.proofs.Enumerated.{vector-length}
+use Rattle.flat.proofs.Vector.{vector-length}
 use Rattle.likeness.proofs.Comparing.{same-padded}
 
 -- the answer where both cards are good
@@ -55,4 +55,4 @@ module _ (first second : List ℕ) (k m : ℕ) (g : GoodCard first k m) where
     pub vectors-decide : k ≡ k′ → m ≡ m′ → same (padded 17 (vector A)) (padded 17 (vector B)) ≡ alike A B
     unfolding alike
     vectors-decide e f =
-        same-padded 17 (vector A) (vector B) (vector-length A ∙ f ∙ sym (vector-length B)) ∙ rw (eq-eqb k k′ e, eq-eqb m m′ f)
+        same-padded 17 (vector A) (vector B) (vector-length A ∙ ap (λ (n : ℕ). n + 1) f ∙ sym (vector-length B)) ∙ rw (eq-eqb k k′ e, eq-eqb m m′ f)

@@ -1,3 +1,4 @@
 pub mod Comparing
 pub mod Answered
 pub mod Theorems
+pub mod Impostors

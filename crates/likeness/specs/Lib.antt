@@ -1,2 +1,3 @@
 pub mod Reports
 pub mod Theorems
+pub mod Impostors

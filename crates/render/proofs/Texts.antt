@@ -2,7 +2,7 @@
 -- Assumes nothing.
 use mathlib.Core.Path.{_≡_, sym, ap, ap₂, _∙_}
 use mathlib.Core.List.{List, [], _∷_}
-use Prim.Native.Nat.{ℕ, _≤_}
+use Prim.Native.Nat.{ℕ, _+_, _≤_}
 use native.Mathlib.Omega.{arith}
 use lib.ListN.{length, take, drop, length-append}
 use lib.Pow.{pow-mono}
@@ -12,12 +12,12 @@ use Rattle.flat.specs.Erasures.{erasures, vector}
 use Rattle.flat.specs.Faults.{Report, accepted, refused, cardReport, listReport, listSlice, erasuresReport, erasuresVector, erasuresSlice}
 use Rattle.flat.proofs.Lists.{take-padded}
 use Rattle.flat.proofs.Reports.{unless-accepted, unless-refused, with-accepted, list-counted}
+use Rattle.flat.proofs.Vector.{vector-length}
 use Rattle.flat.proofs.Verdicts.{erasures-written}
 use Rattle.card.specs.declared.CardFault.{CardFault}
 use Rattle.card.specs.Reports.{faultReport}
 use Rattle.card.proofs.Laws.{unless-fault}
 use Rattle.card.proofs.Callers.{GoodCard, good}
-use Rattle.erasures.proofs.Enumerated.{vector-length}
 use Rattle.export_bounds.proofs.ListLengths.{erasures-few}
 use Rattle.text.specs.Text.{listingText, refusedText}
 use Rattle.render.specs.Printed.{printed}
@@ -75,11 +75,11 @@ module _ (card : List ℕ) (k m : ℕ) (ok : cardReport card ≡ accepted (k ∷
         let w = unless-accepted (erasuresReport card (length slice)) (count ∷ []) (listSlice (erasures C) slice) slice (sym e) in
         omega (arith, ap length (q ∙ w), counted .0, length-append (erasures C) (drop (length (erasures C)) slice))
 
-    pub vector-is : (v : List ℕ) → v ≡ erasuresVector card (length slice) → take m v ≡ vector C
+    pub vector-is : (v : List ℕ) → v ≡ erasuresVector card (length slice) → take (m + 1) v ≡ vector C
     unfolding erasuresVector
     vector-is v q =
-        ap (take m) (q ∙ ap (padded 17) (unless-accepted (erasuresReport card (length slice)) (count ∷ []) (vector C) [] (sym e)))
-        ∙ take-padded 17 m (vector C) (vector-length C ∙ parity-disks)
+        ap (take (m + 1)) (q ∙ ap (padded 17) (unless-accepted (erasuresReport card (length slice)) (count ∷ []) (vector C) [] (sym e)))
+        ∙ take-padded 17 (m + 1) (vector C) (vector-length C ∙ ap (λ (n : ℕ). n + 1) parity-disks)
 
     pub printed-listing : printed card (length slice) ≡ listingText k m (erasures C) (vector C)
     unfolding printed

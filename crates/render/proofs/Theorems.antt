@@ -4,7 +4,7 @@ use mathlib.Core.Path.{_≡_, refl, sym, ap, _∙_}
 use mathlib.Core.Bool.{Bool, true, false}
 use mathlib.Core.Logic.{⊎-elim}
 use mathlib.Core.List.{List, [], _∷_, _++_}
-use Prim.Native.Nat.{ℕ, _+_, _*_, _≤_, _<_}
+use Prim.Native.Nat.{ℕ, _≤_, _<_}
 use native.Mathlib.Nat.{mul-le-mul-left}
 use native.Mathlib.Omega.{arith}
 use borrow.Author.Tests.{ltb-false, eqb-true, le-leb}
@@ -22,8 +22,8 @@ use Rattle.flat.proofs.Members.{In, in-cons, in-nil, map-out}
 use Rattle.flat.proofs.Reports.{passed-number, with-out, with-number}
 use Rattle.flat.proofs.Cards.{accepted-card, card-accepted, count-in}
 use Rattle.flat.proofs.ErasuresListed.{erasures-out}
+use Rattle.flat.proofs.Vector.{vector-length}
 use Rattle.flat.proofs.Filters.{filter-length}
-use Rattle.erasures.proofs.Enumerated.{vector-length}
 use Rattle.export_bounds.proofs.ListLengths.{erasures-few}
 use Rattle.export_bounds.proofs.Values.{erasures-fits}
 use Rattle.text.specs.Decimal.{decimal}
@@ -34,7 +34,7 @@ use Rattle.text.specs.Text.{codeWord, vectorWord, refusedWord, listingText, ref
 use Rattle.text.specs.Answers.{textAnswer, textBuffer}
 use Rattle.text.proofs.Lengths.{entry-most, line-most, length-listing}
 use Rattle.render.specs.Printed.{printed, shownPart}
-use Rattle.render.specs.Theorems.{PrintedShort, PrintedWhole}
+use Rattle.render.specs.Theorems.{longest, PrintedShort, PrintedWhole}
 
 -- ---- a listing
 
@@ -55,7 +55,7 @@ module _ (C : Code) (hk : C .k ≤ 16) (hm : C .m ≤ 16) where
       length-most 1 v
       (⊎-elim (λ e. omega arith) (λ u. ⊎-elim (λ e. omega arith) (λ w. absurd (in-nil v w)) (in-cons v (C .m) [] u)) (in-cons v (C .k) (C .m ∷ []) t))
 
-  listing-most : length (listingText (C .k) (C .m) (erasures C) (vector C)) ≤ 14 * length (erasures C) + 114
+  listing-most : length (listingText (C .k) (C .m) (erasures C) (vector C)) ≤ longest (length (erasures C))
   unfolding disks
   listing-most =
       omega (
@@ -79,12 +79,12 @@ module _ (card : List ℕ) (n : ℕ) (h : erasuresReport card n .number ≡ 0) w
       let p = passed-number (ltb n (length (erasures C))) 9 (length (erasures C) ∷ []) (accepted (length (erasures C) ∷ [])) (ap (λ (r : Report). r .number) (sym w) ∙ h) in
       (ltb-false n (length (erasures C)) (p .0), with-out card (length (erasures C) ∷ []) (λ D. listReport (erasures D) n) (w ∙ p .2) .0)
 
-  listing-short : length (listingText (C .k) (C .m) (erasures C) (vector C)) ≤ 14 * n + 114
+  listing-short : length (listingText (C .k) (C .m) (erasures C) (vector C)) ≤ longest n
   listing-short =
       let s = accepted-card card (C .k) (C .m) (card-accepted card (listed .1)) .sound in
       omega (arith, listing-most C (count-in (C .k) (s .k-ok) .1) (count-in (C .m) (s .m-ok) .1), mul-le-mul-left 14 (listed .0))
 
-refusal-short : (card : List ℕ) (n : ℕ) → length (refusedText (erasuresReport card n .number)) ≤ 14 * n + 114
+refusal-short : (card : List ℕ) (n : ℕ) → length (refusedText (erasuresReport card n .number)) ≤ longest n
 unfolding refusedText
 refusal-short card n =
     let number = erasuresReport card n .number in
@@ -92,12 +92,12 @@ refusal-short card n =
     λ v t. length-most 2 v (⊎-elim (λ e. omega (arith, erasures-fits card n .number-fits)) (λ u. absurd (in-nil v u)) (in-cons v number [] t)) in
     omega (arith, line-most 3 refusedWord (number ∷ []) few)
 
-printed-most : (card : List ℕ) (n : ℕ) → length (printed card n) ≤ 14 * n + 114
+printed-most : (card : List ℕ) (n : ℕ) → length (printed card n) ≤ longest n
 unfolding printed unlessRefused
 printed-most card n = go (eqb (erasuresReport card n .number) 0) refl
   where
     go : (t : Bool) → eqb (erasuresReport card n .number) 0 ≡ t
-        → length (if t then listingText (codeOf card .k) (codeOf card .m) (erasures (codeOf card)) (vector (codeOf card)) else refusedText (erasuresReport card n .number)) ≤ 14 * n + 114
+        → length (if t then listingText (codeOf card .k) (codeOf card .m) (erasures (codeOf card)) (vector (codeOf card)) else refusedText (erasuresReport card n .number)) ≤ longest n
     go true e = listing-short card n (eqb-true (erasuresReport card n .number) 0 e)
     go false e = refusal-short card n
 

@@ -7,12 +7,16 @@ use lib.ListN.{length}
 use Rattle.text.specs.Answers.{textAnswer, textBuffer}
 use Rattle.render.specs.Printed.{printed, shownPart}
 
--- What is printed for any card has at most 14 bytes for each entry that is lent, and 114 for the first and the last line.
+-- the most bytes that are printed where n entries are lent: 14 for each, and 120 for the first and the last line
+abbrev pub longest : ℕ → ℕ
+longest n = 14 * n + 120
+
+-- No text is longer, whatever the card.
 abbrev pub PrintedShort : Type 0
-PrintedShort = (card : List ℕ) (n : ℕ) → length (printed card n) ≤ 14 * n + 114
+PrintedShort = (card : List ℕ) (n : ℕ) → length (printed card n) ≤ longest n
 
 -- So a buffer of that many bytes holds it, and the part that is shown is the whole.
 abbrev pub PrintedWhole : Type 0
 PrintedWhole =
-    (card buffer : List ℕ) (n : ℕ) → 14 * n + 114 ≤ length buffer
+    (card buffer : List ℕ) (n : ℕ) → longest n ≤ length buffer
     → shownPart (textAnswer (printed card n) (length buffer)) (textBuffer (printed card n) buffer) ≡ printed card n

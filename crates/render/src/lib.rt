@@ -23,7 +23,7 @@ fn listing(card: &[u8], k: usize, m: usize, entries: &mut [u32], out: &mut [u8])
     let answer = listing.answer;
     let vector = listing.vector;
     match answer {
-        Listed::Count(count) => text::listing(k, m, &entries[..count], &vector[..m], out),
+        Listed::Count(count) => text::listing(k, m, &entries[..count], &vector[..m + 1], out),
         Listed::Short(_) => text::refused(10, out),
         Listed::Card(fault) => text::refused(card::number(fault), out),
     }

@@ -1,4 +1,5 @@
 -- Document 01, "Worked codes": the table of constants, a row for each of C1 to C12 with what goes in and what has to come out.
+-- The vectors are those of document 02, request [2].
 -- Assumes nothing.
 use mathlib.Core.List.{List, [], _∷_}
 use Prim.Native.Nat.{ℕ}
@@ -54,7 +55,7 @@ C1 =
     record {
       of = code 4 3 (7 ∷ 11 ∷ 13 ∷ []);
       list = 50 ∷ 67 ∷ 84 ∷ 37 ∷ 104 ∷ 25 ∷ 14 ∷ 113 ∷ 102 ∷ 23 ∷ 90 ∷ 43 ∷ 60 ∷ 77 ∷ [];
-      counts = 0 ∷ 0 ∷ 7 ∷ [];
+      counts = 0 ∷ 0 ∷ 7 ∷ 7 ∷ [];
       unlisted = 127 ∷ [];
     }
 
@@ -62,16 +63,16 @@ abbrev pub C2 : Equated
 C2 = record { of = C1 .of; disk = 0; list = 22 ∷ 42 ∷ 76 ∷ 112 ∷ [] }
 
 abbrev pub C3 : Listed
-C3 = record { of = code 2 2 (1 ∷ 2 ∷ []); list = 5 ∷ 10 ∷ []; counts = 0 ∷ 2 ∷ []; unlisted = 15 ∷ [] }
+C3 = record { of = code 2 2 (1 ∷ 2 ∷ []); list = 5 ∷ 10 ∷ []; counts = 0 ∷ 2 ∷ 0 ∷ []; unlisted = 15 ∷ [] }
 
 abbrev pub C4 : Listed
-C4 = record { of = code 1 2 (1 ∷ 1 ∷ []); list = 7 ∷ []; counts = 0 ∷ 0 ∷ []; unlisted = [] }
+C4 = record { of = code 1 2 (1 ∷ 1 ∷ []); list = 7 ∷ []; counts = 0 ∷ 0 ∷ 1 ∷ []; unlisted = [] }
 
 abbrev pub C5 : Listed
-C5 = record { of = code 3 1 (7 ∷ []); list = 9 ∷ 10 ∷ 3 ∷ 12 ∷ 5 ∷ 6 ∷ []; counts = 0 ∷ []; unlisted = [] }
+C5 = record { of = code 3 1 (7 ∷ []); list = 9 ∷ 10 ∷ 3 ∷ 12 ∷ 5 ∷ 6 ∷ []; counts = 0 ∷ 6 ∷ []; unlisted = [] }
 
 abbrev pub C6 : Listed
-C6 = record { of = code 2 1 (1 ∷ []); list = 2 ∷ 5 ∷ []; counts = 1 ∷ []; unlisted = [] }
+C6 = record { of = code 2 1 (1 ∷ []); list = 2 ∷ 5 ∷ []; counts = 1 ∷ 1 ∷ []; unlisted = [] }
 
 abbrev pub C7 : Encoded
 C7 =

@@ -53,25 +53,22 @@ impl Code {
         assert!(out[answer.count..].iter().all(|&slot| slot == FREE), "{:?}", self);
         out.truncate(answer.count);
         let mut vector = [0; 17];
-        vector[..self.m()].copy_from_slice(&by_size(&out, self.m()));
+        vector[..=self.m()].copy_from_slice(&by_size(&out, self.m() + 1));
         assert_eq!(answer.vector, vector, "{:?}", self);
+        assert_eq!(answer.vector.iter().sum::<usize>(), answer.count, "{:?}", self);
         out
     }
 
-    /// The engine's vector.
+    /// The engine's vector: m + 1 numbers, where document 000's has m.
     pub fn vector(&self) -> Vec<usize> {
         let mut out = vec![FREE; 1 << self.k];
         let answer = bridgecrumb::minimal_erasures(&self.card(), &mut out).expect("a sound card");
-        answer.vector[..self.m()].to_vec()
+        answer.vector[..=self.m()].to_vec()
     }
 
-    /// The distance as the engine tells it: the vector's first place that is not 0; the size of the first
-    /// entry where all are 0.
+    /// The distance as the engine tells it: the vector's first place that is not 0.
     pub fn distance(&self) -> usize {
-        match self.vector().iter().position(|&count| count != 0) {
-            Some(place) => place + 1,
-            None => size(self.listed()[0]),
-        }
+        first_place(&self.vector())
     }
 
     /// The engine's verdict.
@@ -96,6 +93,11 @@ pub fn size(set: u32) -> usize {
 /// How many entries have size 1, 2, .. places.
 pub fn by_size(list: &[u32], places: usize) -> Vec<usize> {
     (1..=places).map(|i| list.iter().filter(|&&set| size(set) == i).count()).collect()
+}
+
+/// The first place of a vector that is not 0.
+pub fn first_place(vector: &[usize]) -> usize {
+    1 + vector.iter().position(|&count| count != 0).expect("a number that is not 0")
 }
 
 pub fn choose(n: usize, r: usize) -> usize {

@@ -1,9 +1,9 @@
 //! Document 000, section 4: a corpus is the set of all codes of one k and m, each data disk in some parity
 //! disk and each parity disk with some data disk, and of codes that differ only by the numbering of data
 //! disks and of parity disks just one.
-use crate::codes::Code;
+use crate::codes::{first_place, Code};
 use crate::plain::{compare, list_by_words};
-use crate::table3::{counted_as_printed, first_place, Row, ROWS};
+use crate::table3::{counted_as_printed, Row, ROWS};
 
 /// All lists of `count` numbers from 1 to 2^bits - 1 in rising order, with each bit in some number, and
 /// none that a renumbering of the bits, sorted, makes smaller. A list whose front a renumbering makes

@@ -1,5 +1,5 @@
 //! Examples that the papers work out: the lists, vectors and equations that they write down.
-use crate::codes::{by_size, size, Code};
+use crate::codes::{size, Code};
 use crate::plain::compare;
 
 /// Disks of the example in 000's section 3.2: s1 to s4 are disks 0 to 3, p1 to p4 disks 4 to 7.
@@ -63,7 +63,7 @@ fn the_list_of_section_3_2() {
 /// "The MEV output by the ME Algorithm is (0, 0, 4, 5)."
 #[test]
 fn the_vector_of_section_3_2() {
-    assert_eq!(example().vector(), [0, 0, 4, 5]);
+    assert_eq!(example().vector()[..4], [0, 0, 4, 5]);
 }
 
 /// Section 3.4: of all sets of up to m disks, 29 are erasure patterns ("the size of the EL for the code:
@@ -88,19 +88,17 @@ fn the_bitmaps_of_section_4_2() {
 
 /// Document 000, section 4.2, on the rows that Table 3 leaves out. "Replication has no erasure patterns ..
 /// of size less than or equal to m", "RAID 4 tolerates all erasure patterns of size 1": both vectors are
-/// all 0. Document 01 lists the erasures of size m + 1: all disks, and every two disks.
+/// all 0 up to m. Document 01 lists the erasures of size m + 1: all disks, and every two disks.
 #[test]
 fn replication_and_raid_4() {
     for m in 1..=16 {
         let code = Code::new(1, &vec![1; m]);
-        assert_eq!(code.vector(), vec![0; m]);
+        assert_eq!(code.vector(), [vec![0; m], vec![1]].concat());
         assert_eq!(code.listed(), [(1 << (m + 1)) - 1]);
     }
     for k in 1..=16 {
         let code = Code::new(k, &[((1u32 << k) - 1) as u16]);
-        assert_eq!(code.vector(), [0]);
-        let list = code.listed();
-        assert_eq!(by_size(&list, 2), [0, k * (k + 1) / 2]);
+        assert_eq!(code.vector(), [0, k * (k + 1) / 2]);
         compare(&code);
     }
 }
@@ -133,7 +131,7 @@ fn the_equations_of_section_4_b() {
 #[test]
 fn two_halves_with_a_parity_each() {
     let code = Code::new(8, &[0x0F, 0xF0]);
-    assert_eq!(code.vector(), [0, 20]);
+    assert_eq!(code.vector(), [0, 20, 0]);
     assert_eq!(code.distance(), 2);
     for x in 0..4 {
         for y in 4..8 {

@@ -41,7 +41,7 @@ returns c =
     let b = c .before .before .before .before .rows in
     let C = codeIn (a .k) (a .m) (now (a .columns)) in
     c .vector .ensures
-    ∙ ap (λ (l : List ℕ). padded 17 (tabulate (a .m) (λ i. getD l ((i + 1) * sizes) 0)))
+    ∙ ap (λ (l : List ℕ). padded 17 (tabulate (a .m + 1) (λ i. getD l ((i + 1) * sizes) 0)))
     (c .before .before .mark .ensures .0 ∙ ap (λ (l : List ℕ). tally l 0 0) (taken-rows (a .k) (a .m) _ _ _ (b .ensures .0) (b .ensures .1)))
     ∙ ap (padded 17) (vector-tally C (omega arith))
 

@@ -100,7 +100,7 @@ returns-2 c =
       list-fits (erasures C) _ _ (counted t) (c .before .before .before .before .before .before .if1 .left),
       (
         c .vector .ensures
-            ∙ ap (λ (l : List ℕ). padded 17 (tabulate (a .m) (λ i. getD l ((i + 1) * sizes) 0))) (tallied (t .before .before))
+            ∙ ap (λ (l : List ℕ). padded 17 (tabulate (a .m + 1) (λ i. getD l ((i + 1) * sizes) 0))) (tallied (t .before .before))
             ∙ ap (padded 17) (vector-tally C (omega arith)),
         c .before .before .before .fill .ensures ∙ ap (λ (l : List ℕ). listSlice l (now (a .out))) (listed-is (t .before .before)),
       ),

@@ -12,11 +12,14 @@ use Rattle.erasures.proofs.vector.Statement.{statement}
 use Rattle.erasures.proofs.vector.Tie as tie
 
 abbrev Inv-loop : tie.InvT-loop
-Inv-loop m counts out₀ i₀ out i =
-    (i ≤ m) × (length out ≡ 17) × (length counts ≡ keys) × (out ≡ padded 17 (tabulate i (λ j. getD counts ((j + 1) * sizes) 0)))
+Inv-loop m counts out₀ places i₀ out i =
+    (i ≤ places) × (length out ≡ 17) × (length counts ≡ keys) × (out ≡ padded 17 (tabulate i (λ j. getD counts ((j + 1) * sizes) 0)))
 
 abbrev μ-loop : tie.MeasureT-loop
-μ-loop m counts out₀ i₀ out i = m - i
+μ-loop m counts out₀ places i₀ out i = places - i
+
+add-places : tie.Need-add-places Inv-loop μ-loop
+add-places c = search needs
 
 loop-holds : tie.Need-loop-holds Inv-loop μ-loop
 loop-holds c = (omega arith, refl, search needs, fill-none 17 _)
@@ -52,7 +55,7 @@ loop-again c =
 returns : tie.Need-returns Inv-loop μ-loop
 returns c =
     let l = c .before .loop in
-    let e : l .i ≡ c .before .before .args .m = omega arith in
+    let e : l .i ≡ c .before .before .args .m + 1 = omega arith in
     l .inv .3 ∙ ap (λ (n : ℕ). padded 17 (tabulate n (λ j. getD (c .before .before .args .t1) ((j + 1) * sizes) 0))) e
 
 pub vector-spec : {M : Type 1} → statement M
@@ -61,6 +64,7 @@ vector-spec =
     (tie.spec
     Inv-loop
     μ-loop
+    add-places
     loop-holds
     add-out
     mul-out

@@ -2,12 +2,13 @@
 -- Assumes nothing.
 use mathlib.Core.Path.{_≡_, ap₂, _∙_}
 use mathlib.Core.List.{List}
-use Prim.Native.Nat.{ℕ, _+_, _*_, _≤_}
+use Prim.Native.Nat.{ℕ, _≤_}
 use native.Mathlib.Omega.{arith}
 use borrow.Author.Needs.{needs}
 use lib.ListN.{length, replicate, length-replicate}
 use Rattle.text.specs.Answers.{textAnswer, textBuffer}
 use Rattle.render.specs.Printed.{printed, shownPart}
+use Rattle.render.specs.Theorems.{longest}
 use Rattle.render.proofs.Theorems.{printed-whole}
 use Rattle.listing.proofs.main.Statement.{statement}
 use Rattle.listing.proofs.main.Tie as tie
@@ -46,7 +47,7 @@ shown-requires : tie.Need-shown-requires
 shown-requires c κs = search needs
 
 -- a buffer of zeros
-whole : (card : List ℕ) (n size : ℕ) → 14 * n + 114 ≤ size →
+whole : (card : List ℕ) (n size : ℕ) → longest n ≤ size →
     shownPart (textAnswer (printed card n) (length {A = ℕ} (replicate size 0))) (textBuffer (printed card n) (replicate size 0)) ≡ printed card n
 whole card n size h = printed-whole card (replicate size 0) n (omega (arith, length-replicate {A = ℕ} size 0))
 

@@ -2,7 +2,7 @@
 -- Assumes nothing.
 use mathlib.Core.Path.{_≡_, sym, ap, ap₂, _∙_}
 use mathlib.Core.List.{List, [], _∷_}
-use Prim.Native.Nat.{ℕ, _≤_}
+use Prim.Native.Nat.{ℕ, _+_, _≤_}
 use native.Mathlib.Omega.{arith}
 use borrow.Author.Needs.{needs}
 use denote.Ref.{now}
@@ -51,7 +51,7 @@ told c = ap listedReport (sym (c .before .answer .given .1)) ∙ listed (past c)
 roomy : (c : tie.After-known-told) → countAt c ≤ length (listed (past c) .list .last .1 .0)
 roomy c = room _ _ _ (start (past c) .pre) (sliceAt (past c)) (countAt c) (told c) _ (listed (past c) .list .ensures .1 .1)
 
-places : (c : tie.After-known-told) → mAt c ≤ length (listed (past c) .list .result .vector)
+places : (c : tie.After-known-told) → mAt c + 1 ≤ length (listed (past c) .list .result .vector)
 places c =
     let len : length (listed (past c) .list .result .vector) ≡ 17 = search needs in
     omega (arith, counts _ _ _ (start (past c) .pre))
@@ -61,6 +61,9 @@ slice-reshare-prefix-listing c = roomy c
 
 slice-aggregate-listing : tie.Need-slice-aggregate-listing
 slice-aggregate-listing c = sym (length-take-le _ _ (roomy (c .before)))
+
+add-vector : tie.Need-add-vector
+add-vector c = record { fits = omega (arith, counts _ _ _ (start (past (c .before)) .pre)) }
 
 array-share-prefix-vector : tie.Need-array-share-prefix-vector
 array-share-prefix-vector c = places (c .before)
@@ -74,7 +77,7 @@ listing-requires c κs =
     let l = listed (past d) .list in
     let ok = start (past d) .pre in (
       omega (arith, length-take-le (countAt d) (l .last .1 .0) (roomy d), few _ _ _ ok (sliceAt (past d)) (countAt d) (told d)),
-      omega (arith, length-take-le (mAt d) (l .result .vector) (places d), counts _ _ _ ok),
+      omega (arith, length-take-le (mAt d + 1) (l .result .vector) (places d), counts _ _ _ ok),
     )
 
 enum-told : tie.Need-enum-told
@@ -107,7 +110,7 @@ returns c =
     let ok = start v .pre in
     let es = ap (take (countAt d)) (l .ensures .1 .1) ∙ entries-are _ _ _ ok (sliceAt v) (countAt d) (told d) in
     let vs = vector-is _ _ _ ok (sliceAt v) (countAt d) (told d) (l .result .vector) (l .ensures .1 .0) in
-    let e : printed (cardAt v) (length (sliceAt v)) ≡ listingText (start v .args .k) (mAt d) (take (countAt d) (l .last .1 .0)) (take (mAt d) (l .result .vector)) =
+    let e : printed (cardAt v) (length (sliceAt v)) ≡ listingText (start v .args .k) (mAt d) (take (countAt d) (l .last .1 .0)) (take (mAt d + 1) (l .result .vector)) =
     printed-listing _ _ _ ok (sliceAt v) (countAt d) (told d) ∙ sym (ap₂ (λ (x y : List ℕ). listingText (start v .args .k) (mAt d) x y) es vs) in
     rw e (r .listing .ensures .0, (r .listing .ensures .1, l .ensures .1 .1))
 
@@ -151,6 +154,7 @@ listing-spec =
     enum-known-answer
     slice-reshare-prefix-listing
     slice-aggregate-listing
+    add-vector
     array-share-prefix-vector
     slice-aggregate-listing-2
     listing-requires

@@ -169,10 +169,10 @@ pub fn minimal_erasures(code: &Code) -> Rc<Vec<u32>> {
     made.clone()
 }
 
-/// The vector of a list: m numbers, the i-th being how many entries have size i; then zeros.
+/// The vector of a list: m + 1 numbers, the i-th being how many entries have size i; then zeros.
 pub fn vector(code: &Code, list: &[u32]) -> [usize; 17] {
     let mut vector = [0; 17];
-    for i in 1..=code.m {
+    for i in 1..=code.m + 1 {
         vector[i - 1] = list.iter().filter(|set| set.count_ones() as usize == i).count();
     }
     vector

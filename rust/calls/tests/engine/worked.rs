@@ -35,11 +35,11 @@ fn listed(k: usize, columns: &[u16], list: &[u32], vector: &[usize]) {
 
 #[test]
 fn c1_to_c6_lists() {
-    listed(4, &[7, 11, 13], &[50, 67, 84, 37, 104, 25, 14, 113, 102, 23, 90, 43, 60, 77], &[0, 0, 7]);
-    listed(2, &[1, 2], &[5, 10], &[0, 2]);
-    listed(1, &[1, 1], &[7], &[0, 0]);
-    listed(3, &[7], &[9, 10, 3, 12, 5, 6], &[0]);
-    listed(2, &[1], &[2, 5], &[1]);
+    listed(4, &[7, 11, 13], &[50, 67, 84, 37, 104, 25, 14, 113, 102, 23, 90, 43, 60, 77], &[0, 0, 7, 7]);
+    listed(2, &[1, 2], &[5, 10], &[0, 2, 0]);
+    listed(1, &[1, 1], &[7], &[0, 0, 1]);
+    listed(3, &[7], &[9, 10, 3, 12, 5, 6], &[0, 6]);
+    listed(2, &[1], &[2, 5], &[1, 1]);
     let verdict = |k, columns: &[u16], set, fatal: u64| {
         let card = card_of(k, columns.len(), columns);
         worked("verdict", Input { card, set, ..Input::default() }, 256 * fatal, Vec::new());
@@ -47,6 +47,13 @@ fn c1_to_c6_lists() {
     verdict(4, &[7, 11, 13], 127, 1);
     verdict(4, &[7, 11, 13], 7, 0);
     verdict(2, &[1, 2], 15, 1);
+}
+
+/// Their vectors are 0 3 0 3 and 0 3 0 0.
+#[test]
+fn not_alike_by_the_last_number_alone() {
+    let (card, second) = (card_of(3, 3, &[1, 1, 7]), card_of(3, 3, &[1, 2, 4]));
+    worked("alike", Input { card, second, ..Input::default() }, 0, Vec::new());
 }
 
 #[test]

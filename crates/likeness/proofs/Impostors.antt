@@ -1,0 +1,9 @@
+-- The impostor of specs/Impostors.antt is told from the true definition: antt computes both.
+-- Assumes nothing.
+use mathlib.Core.Path.{refl}
+use Rattle.flat.specs.Alike.{alike}
+use Rattle.likeness.specs.Impostors.{alikeToM, LastEntryTells}
+
+pub last-entry-tells : LastEntryTells
+unfolding alikeToM alike
+last-entry-tells = (refl, refl)
