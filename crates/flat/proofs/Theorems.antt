@@ -5,7 +5,7 @@ use Rattle.gf2.proofs.Sizes.{one-left-size}
 use Rattle.flat.specs.Cards.{disks}
 use Rattle.flat.specs.Theorems
 use Rattle.flat.specs.Rebuilt
-use Rattle.flat.specs.Spans.{rows, checks}
+use Rattle.flat.specs.Spans.{checks}
 use Rattle.flat.specs.Erasures.{erasures}
 use Rattle.flat.specs.Equations.{equations}
 use Rattle.flat.proofs.RoundTrip as round

@@ -1,11 +1,11 @@
 -- The vector: every entry has a place in it, its numbers add up to the list's count, and that count is not 0.
 -- Assumes nothing.
-use mathlib.Core.Path.{_≡_, refl, sym, ap, ap₂, _∙_}
+use mathlib.Core.Path.{_≡_, sym, ap, _∙_}
 use mathlib.Core.List.{List, [], _∷_, _++_}
-use Prim.Native.Nat.{ℕ, zero, suc, _+_, _-_, _≤_}
+use Prim.Native.Nat.{ℕ, suc, _+_, _≤_}
 use native.Mathlib.Omega.{arith}
 use lib.Dec.{eqb}
-use lib.ListN.{length, replicate}
+use lib.ListN.{length}
 use lib.Pow.{pow-mono}
 use Rattle.gf2.specs.Sets.{size}
 use Rattle.gf2.specs.Span.{InSpan}
@@ -14,12 +14,12 @@ use Rattle.gf2.proofs.Tests.{eqb-out}
 use Rattle.gf2.proofs.Subsets.{⊆-refl, lowest-has}
 use Rattle.gf2.proofs.Sizes.{size-less, one-left-size}
 use Rattle.gf2.proofs.OneRow.{one-row}
-use Rattle.flat.specs.Lists.{tabulate, sum, padded}
+use Rattle.flat.specs.Lists.{tabulate, sum}
 use Rattle.flat.specs.Cards.{Code, codeOf, disks}
 use Rattle.flat.specs.Erasures.{erasures, places, vector}
 use Rattle.flat.specs.Faults.{accepted, listReport, erasuresReport, erasuresVector}
 use Rattle.flat.specs.Spans.{codeword, rows}
-use Rattle.flat.proofs.Lists.{length-tabulate, map-range}
+use Rattle.flat.proofs.Lists.{length-tabulate, map-range, sum-padded}
 use Rattle.flat.proofs.Reports.{unless-accepted, with-out, list-counted}
 use Rattle.flat.proofs.Cards.{accepted-card, card-accepted, count-in}
 use Rattle.flat.proofs.Rows.{rows-length, rows-indep}
@@ -83,21 +83,6 @@ module _ (C : Code) where
       go : (l : List ℕ) (R : ℕ) → In R l → 1 ≤ length l
       go [] R t = absurd (in-nil R t)
       go (x ∷ l) R t = omega arith
-
--- zeros behind a list add nothing
-sum-zeros : (n : ℕ) → sum (replicate n 0) ≡ 0
-unfolding sum
-sum-zeros zero = refl
-sum-zeros (suc n) = omega (arith, sum-zeros n)
-
-sum-append : (xs ys : List ℕ) → sum (xs ++ ys) ≡ sum xs + sum ys
-unfolding sum
-sum-append [] ys = omega arith
-sum-append (x ∷ xs) ys = omega (arith, sum-append xs ys)
-
-sum-padded : (n : ℕ) (xs : List ℕ) → sum (padded n xs) ≡ sum xs
-unfolding padded
-sum-padded n xs = omega (arith, sum-append xs (replicate (n - length xs) 0), sum-zeros (n - length xs))
 
 -- the numbers that the lister answers
 pub vector-answered : (card : List ℕ) (n count : ℕ) → erasuresReport card n ≡ accepted (count ∷ []) → (sum (erasuresVector card n) ≡ count) × (1 ≤ count)

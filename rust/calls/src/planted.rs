@@ -3,11 +3,9 @@
 
 use crate::input::{bytes_of, Input};
 use crate::lent::{Lent, Place};
-use crate::reference::{self, Code};
 use crate::rows::{cards, records, sets, strips, trays};
 use crate::table::{Engine, Row, TABLE};
 use std::env;
-use std::rc::Rc;
 
 /// Whose fault it is.
 enum Planted {
@@ -37,7 +35,7 @@ pub fn table() -> [Row; TABLE.len()] {
 
 /// Each under a line that says what is wrong.
 #[rustfmt::skip]
-const PLANTED: [Planted; 36] = [
+const PLANTED: [Planted; 35] = [
     // the last wrong column instead of the first
     Archive("card_read", |input, lent| last_wrong_column(input, (cards::READ.engine)(input, lent))),
     // a refusal writes k
@@ -46,8 +44,6 @@ const PLANTED: [Planted; 36] = [
     Archive("card_write", |input, lent| instead(cards::WRITE.engine, input, lent, 5, input.out_len != input.m.wrapping_mul(2).wrapping_add(2), 7)),
     // alike where the lists are only equally long
     Archive("alike", |input, lent| instead(cards::ALIKE.engine, input, lent, 0, equally_long(input), 256)),
-    // alike by the first m numbers of the vectors
-    Archive("alike", |input, lent| instead(cards::ALIKE.engine, input, lent, 0, alike_to_m(input), 256)),
     // the last byte of some lengths is left out
     Archive("encode", |input, lent| after(strips::ENCODE.engine, input, lent, 0, |lent, _| if input.strip_len % 16 == 15 {
         *lent.written(0).last_mut().unwrap() = *input.stripe.last().unwrap();
@@ -205,13 +201,6 @@ fn last_wrong_column(input: &Input, answer: u64) -> u64 {
 fn equally_long(input: &Input) -> bool {
     let needed = |card: &[u8]| bridgecrumb::minimal_erasures(card, &mut []).map_err(|error| error.value());
     input.card.get(..2) == input.second.get(..2) && needed(&input.card) == needed(&input.second)
-}
-
-/// Whether the cards have as many disks, and as many minimal erasures of each size up to m.
-fn alike_to_m(input: &Input) -> bool {
-    let to_m =
-        |code: Rc<Code>| (code.k, reference::vector(&code, &reference::minimal_erasures(&code))[..code.m].to_vec());
-    reference::code(&input.card).map(to_m) == reference::code(&input.second).map(to_m)
 }
 
 /// Whether a file with a card has another number of entries than the card's disks need.

@@ -183,7 +183,8 @@ fn any_two(choice: &mut Choice) -> Input {
     Input { card: first, second, ..Input::default() }
 }
 
-/// A card that is often alike: data disks and columns in another order, or a column changed or put twice, or one byte changed.
+/// A card that is often alike: data disks and columns in another order, or a column changed, put twice or with one data disk for
+/// another, or one byte changed.
 fn near(choice: &mut Choice, card: &[u8]) -> Vec<u8> {
     let (k, m, mut columns) = match reference::read_card(card) {
         Ok(read) => read,
@@ -191,10 +192,7 @@ fn near(choice: &mut Choice, card: &[u8]) -> Vec<u8> {
     };
     for _ in 0..choice.below(4) {
         let (one, other) = (choice.below(k), choice.below(k));
-        for column in &mut columns {
-            let differ = (*column >> one ^ *column >> other) & 1;
-            *column ^= differ << one ^ differ << other;
-        }
+        columns.iter_mut().for_each(|column| swap_disks(column, one, other));
         let (one, other) = (choice.below(m), choice.below(m));
         columns.swap(one, other);
     }
@@ -207,9 +205,16 @@ fn near(choice: &mut Choice, card: &[u8]) -> Vec<u8> {
             changed[choice.below(card.len())] ^= choice.byte();
             return changed;
         }
+        4 => swap_disks(&mut columns[choice.below(m)], choice.below(k), choice.below(k)),
         _ => {}
     }
     card_of(k, m, &columns)
+}
+
+/// One data disk for the other in a column.
+fn swap_disks(column: &mut u16, one: usize, other: usize) {
+    let differ = (*column >> one ^ *column >> other) & 1;
+    *column ^= differ << one ^ differ << other;
 }
 
 /// Every two cards of up to 6 disks.
