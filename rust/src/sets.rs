@@ -7,8 +7,8 @@ use crate::{ffi, Error};
 pub struct Listing {
     /// How many minimal erasures there are: so many entries of the slice were written.
     pub count: usize,
-    /// Place i - 1 has how many of them hold i disks, for i from 1 to m + 1; the other places are 0. Their
-    /// total is the count.
+    /// Place i - 1 has how many of them hold i disks, for i from 1 to m + 1; the other places are 0. The
+    /// vector's total is the count.
     pub vector: [usize; 17],
 }
 

@@ -85,10 +85,10 @@ fill-more n j v f out h o e =
     rw (o, e, add-one) (padded-more n j (f j) (tabulate j f) (length-tabulate j f) h ∙ ap (padded n) (sym (tabulate-more j f)))
 
 -- zeros behind a list add nothing to its sum
-sum-zeros : (n : ℕ) → sum (replicate n 0) ≡ 0
+sum-replicate : (n : ℕ) → sum (replicate n 0) ≡ 0
 unfolding sum
-sum-zeros zero = refl
-sum-zeros (suc n) = omega (arith, sum-zeros n)
+sum-replicate zero = refl
+sum-replicate (suc n) = omega (arith, sum-replicate n)
 
 sum-append : (xs ys : List ℕ) → sum (xs ++ ys) ≡ sum xs + sum ys
 unfolding sum
@@ -97,7 +97,7 @@ sum-append (x ∷ xs) ys = omega (arith, sum-append xs ys)
 
 pub sum-padded : (n : ℕ) (xs : List ℕ) → sum (padded n xs) ≡ sum xs
 unfolding padded
-sum-padded n xs = omega (arith, sum-append xs (replicate (n - length xs) 0), sum-zeros (n - length xs))
+sum-padded n xs = omega (arith, sum-append xs (replicate (n - length xs) 0), sum-replicate (n - length xs))
 
 getD-zeros : (n i : ℕ) → _≡_ {A = ℕ} (getD (replicate n 0) i 0) 0
 getD-zeros zero i = refl

@@ -1,6 +1,6 @@
 -- Document 01, "Fatal sets and their list".
 -- A fatal set is an erasure pattern of document 000: its loss loses data. Its list is the minimal erasures list, its vector the
--- minimal erasures vector.
+-- minimal erasures vector with one number more.
 -- Assumes nothing.
 use mathlib.Core.Bool.{Bool, not, _&&_, _||_}
 use mathlib.Core.List.{List, map}

@@ -132,7 +132,7 @@ ErasuresEnumerated = (C : Code) → erasures C ≡ erasuresByWord C
 abbrev pub EntrySizes : Type 0
 EntrySizes = (C : Code) (S : ℕ) → T (member S (erasures C)) → (1 ≤ size S) × (size S ≤ C .m + 1)
 
--- So the vector counts them all: it has m + 1 entries, and their total is the list's count.
+-- So the vector counts them all: it has m + 1 numbers, and their total is the list's count.
 abbrev pub VectorTotal : Type 0
 VectorTotal = (C : Code) → (length (vector C) ≡ C .m + 1) × (sum (vector C) ≡ length (erasures C))
 

@@ -2,8 +2,8 @@
 -- Assumes nothing.
 use mathlib.Core.Path.{refl}
 use Rattle.flat.specs.Alike.{alike}
-use Rattle.likeness.specs.Impostors.{alikeToM, LastEntryTells}
+use Rattle.likeness.specs.Impostors.{alikeToM, LastNumberTells}
 
-pub last-entry-tells : LastEntryTells
+pub last-number-tells : LastNumberTells
 unfolding alikeToM alike
-last-entry-tells = (refl, refl)
+last-number-tells = (refl, refl)

@@ -6,7 +6,7 @@ ghost use Rattle.render.specs.Printed.{printed};
 use libc::STDIN_FILENO;
 use libc::STDOUT_FILENO;
 
-// Prints the text of a card: all that document 01 says, and nothing else.
+// Prints the text of a card: all that the documents say, and nothing else.
 fn print(card: &[u8], text: &[u8])
     requires { ⌜ now text ≡ printed (now card) 16000 ⌝ }
 {

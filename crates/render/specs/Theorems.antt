@@ -7,7 +7,7 @@ use lib.ListN.{length}
 use Rattle.text.specs.Answers.{textAnswer, textBuffer}
 use Rattle.render.specs.Printed.{printed, shownPart}
 
--- the most bytes that are printed where n entries are lent: 14 for each, and 120 for the first and the last line
+-- a length that suffices where n entries are lent: 14 bytes for each, and 120 for the first and the last line
 abbrev pub longest : ℕ → ℕ
 longest n = 14 * n + 120
 

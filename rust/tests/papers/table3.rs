@@ -66,8 +66,8 @@ pub const ROWS: &[Row] = rows![
     7 7 | 29610804 20 965097 | 7, 27, 45, 51, 86, 110, 120 | (0, 0, 0, 3, 24, 36, 16) 4;
 ];
 
-/// The rows with m > k: k, m, and the vector by brute force over document 01's definitions, which none of
-/// these rows prints. Printed are all entries of size up to k, but of the larger ones only the base
+/// The rows with m > k: k, m, and the vector's first m numbers by brute force over document 01's definitions,
+/// which none of these rows prints. Printed are all entries of size up to k, but of the larger ones only the base
 /// erasures, those with one data disk (see `counted_as_printed`), although 000's section 2 asks for all
 /// up to size m, as document 01 does. Where d* is another too, the row says so.
 #[rustfmt::skip]
@@ -124,8 +124,9 @@ fn vectors_with_m_past_k_follow_the_definitions() {
     for (row, &(k, m, vector)) in rows.iter().zip(MORE_PARITY) {
         assert_eq!((row.k, row.m), (k, m));
         let code = Code::new(k, row.columns);
-        assert_eq!(by_size(&literal_list(&code, &fatal_sets(&code)), m), vector, "{:?}", code);
-        assert_eq!(code.vector()[..m], *vector, "{:?}", code);
+        let counted = by_size(&literal_list(&code, &fatal_sets(&code)), m + 1);
+        assert_eq!(counted[..m], *vector, "{:?}", code);
+        assert_eq!(code.vector(), counted, "{:?}", code);
         assert_ne!(row.mev, vector, "{:?}", code);
     }
 }
