@@ -14,7 +14,7 @@ use lib.Seq.{ext-getD, length-take-le}
 use Rattle.gf2.specs.If.{if_then_else_}
 use Rattle.gf2.specs.Sets.{has, size}
 use Rattle.gf2.proofs.Tests.{if-false, ltb-in}
-use Rattle.gf2.proofs.Bits.{bit-of-zero, not-has}
+use Rattle.gf2.proofs.Bits.{no-disk}
 use Rattle.gf2.proofs.Subsets.{⊆-zero}
 use Rattle.flat.specs.Lists.{Bytes}
 use Rattle.flat.specs.Cards.{Code, codeOf, disks, setOk}
@@ -32,9 +32,6 @@ use Rattle.record_format.proofs.Numbers.{bytes-part}
 use Rattle.demands.specs.Demand3.{RightRebuild}
 use Rattle.demands.specs.Checked.{NothingLost}
 use Rattle.demands.proofs.Demand3.{right-rebuild}
-
-none-in : (i : ℕ) → T (has 0 i) → ⊥
-none-in i = not-has 0 i (bit-of-zero i)
 
 -- the loss of nothing is not fatal
 none-fatal : (C : Code) → T (fatal C 0) → ⊥
@@ -70,8 +67,8 @@ module _ (card : List ℕ) (L : ℕ) (stripe : List ℕ) (whole : length stripe 
       let agree : Agree C 0 (byteOf L stripe (p % L)) (byteOf L content (p % L)) = agrees-out C L 0 stripe content (a .agree) (p % L) (q .1) in
       at-place L (given C L own) p ∙ given-byte C L own (p % L) (p / L) (q .1) (q .0)
       ∙ holds-cong C (byteOf L own (p % L)) (byteOf L content (p % L)) (p / L)
-      (λ d k. byte-take (C .k) L stripe (p % L) d (q .1) k ∙ sym (agree d (data-disk d k) (none-in d)) ∙ holds-data C (byteOf L content (p % L)) d k)
-      ∙ agree (p / L) (q .0) (none-in (p / L)) ∙ sym (at-place L stripe p))
+      (λ d k. byte-take (C .k) L stripe (p % L) d (q .1) k ∙ sym (agree d (data-disk d k) (no-disk d)) ∙ holds-data C (byteOf L content (p % L)) d k)
+      ∙ agree (p / L) (q .0) (no-disk (p / L)) ∙ sym (at-place L stripe p))
 
   -- and the stripe's own data strips agree where it is their encoding
   own-agrees : Bytes stripe → encoded C L stripe ≡ stripe → Agreeing C L 0 stripe own
@@ -99,7 +96,7 @@ module _ (card : List ℕ) (k m L : ℕ) (stripe : List ℕ) (ok : cardReport ca
       let n = disks (codeOf card) * L in
       ext-getD 0 _ stripe (length-tabulate n _ ∙ sym whole)
       (λ p l. getD-tabulate n _ p (omega (arith, length-tabulate n (λ q. if has 0 (q / L) then getD (given (codeOf card) L content) q 0 else getD stripe q 0)))
-      ∙ if-false (has 0 (p / L)) (getD (given (codeOf card) L content) p 0) (getD stripe p 0) (none-in (p / L)))
+      ∙ if-false (has 0 (p / L)) (getD (given (codeOf card) L content) p 0) (getD stripe p 0) (no-disk (p / L)))
 
   kept : rebuildStripe card L 0 stripe ≡ stripe
   unfolding rebuildStripe unlessRefused

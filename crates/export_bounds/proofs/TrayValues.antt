@@ -4,21 +4,17 @@ use mathlib.Core.Path.{_≡_}
 use mathlib.Core.Bool.{true}
 use mathlib.Core.List.{List, []}
 use Prim.Native.Nat.{ℕ, _*_, _≤_, _<_, _^_}
-use native.Mathlib.Nat.{mul-le-mul-right}
 use native.Mathlib.Omega.{arith}
-use borrow.Author.Tests.{ltb-true}
-use lib.Dec.{T, ltb, eqb, leb}
+use lib.Dec.{ltb, eqb, leb}
 use lib.ListN.{length, getD}
 use Rattle.gf2.specs.Sets.{size}
 use Rattle.gf2.proofs.Tests.{true-T, and-out, leb-out, ltb-out}
 use Rattle.gf2.proofs.Sizes.{size-lt}
-use Rattle.flat.specs.Lists.{every}
 use Rattle.flat.specs.Cards.{Code, codeOf, disks, setOk}
 use Rattle.flat.specs.Strips.{lengthOk}
 use Rattle.flat.proofs.Quantifiers.{every-out}
 use Rattle.peeling.specs.Trays.{trayPeeled, total}
 use Rattle.peeling.specs.Faults.{trayOk, setsOk, trayTests, trayReport}
-use Rattle.peeling.specs.Theorems.{sizes}
 use Rattle.peeling.proofs.Trays.{tray-count, sizes-most}
 use Rattle.export_bounds.specs.Coded.{Fits}
 use Rattle.export_bounds.proofs.Values.{named, test, with-fits}

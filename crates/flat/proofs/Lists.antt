@@ -13,7 +13,7 @@ use lib.ListN.{length, getD, take, drop, set, replicate, length-append, length-d
 use lib.Seq.{take-at, set-at, append-snoc, getD-append-add, ext-getD, getD-take, getD-drop, length-take-le, drop-append-add, drop-drop, paste, paste-zero, take-all}
 use Rattle.gf2.specs.If.{if_then_else_}
 use Rattle.gf2.proofs.Tests.{below-or}
-use Rattle.flat.specs.Lists.{range, tabulate, sum, padded, put, field}
+use Rattle.flat.specs.Lists.{range, tabulate, padded, put, field}
 
 -- the bytes from n on, as code lends them
 pub rest : (n : ℕ) (l : List ℕ) → take (length l - n) (drop n l) ≡ drop n l
@@ -84,22 +84,7 @@ pub fill-more : (n j v : ℕ) (f : ℕ → ℕ) (out : List ℕ) → j < n → o
 fill-more n j v f out h o e =
     rw (o, e, add-one) (padded-more n j (f j) (tabulate j f) (length-tabulate j f) h ∙ ap (padded n) (sym (tabulate-more j f)))
 
--- zeros behind a list add nothing to its sum
-sum-replicate : (n : ℕ) → sum (replicate n 0) ≡ 0
-unfolding sum
-sum-replicate zero = refl
-sum-replicate (suc n) = omega (arith, sum-replicate n)
-
-sum-append : (xs ys : List ℕ) → sum (xs ++ ys) ≡ sum xs + sum ys
-unfolding sum
-sum-append [] ys = omega arith
-sum-append (x ∷ xs) ys = omega (arith, sum-append xs ys)
-
-pub sum-padded : (n : ℕ) (xs : List ℕ) → sum (padded n xs) ≡ sum xs
-unfolding padded
-sum-padded n xs = omega (arith, sum-append xs (replicate (n - length xs) 0), sum-replicate (n - length xs))
-
-getD-zeros : (n i : ℕ) → _≡_ {A = ℕ} (getD (replicate n 0) i 0) 0
+pub getD-zeros : (n i : ℕ) → _≡_ {A = ℕ} (getD (replicate n 0) i 0) 0
 getD-zeros zero i = refl
 getD-zeros (suc n) zero = refl
 getD-zeros (suc n) (suc i) = getD-zeros n i

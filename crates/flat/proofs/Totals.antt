@@ -1,15 +1,15 @@
--- Entries counted by a key add up to the list: ordering by a key repeats none, and loses none where every key is below the bound.
+-- Sums. Entries counted by a key add up to the list: ordering by a key repeats none, and loses none where every key is below the bound.
 -- Assumes nothing.
 use mathlib.Core.Path.{_≡_, refl, sym, ap, _∙_}
 use mathlib.Core.Logic.{⊎-elim}
-use mathlib.Core.List.{List, [], _∷_}
-use Prim.Native.Nat.{ℕ, zero, suc, _≤_, _<_}
+use mathlib.Core.List.{List, [], _∷_, _++_}
+use Prim.Native.Nat.{ℕ, zero, suc, _+_, _-_, _≤_, _<_}
 use native.Mathlib.Omega.{arith}
 use lib.Dec.{eqb, ltb}
-use lib.ListN.{length}
+use lib.ListN.{length, replicate}
 use Rattle.gf2.proofs.Tests.{dec, eqb-in, eqb-out, ltb-in, ltb-out}
-use Rattle.flat.specs.Lists.{sum, tabulate, filter, orderedBy}
-use Rattle.flat.proofs.Lists.{tabulate-cong}
+use Rattle.flat.specs.Lists.{sum, tabulate, filter, orderedBy, padded}
+use Rattle.flat.proofs.Lists.{zeros, tabulate-cong}
 use Rattle.flat.proofs.Members.{In}
 use Rattle.flat.proofs.Filters.{filter-nil, filter-yes, filter-not, filter-all, filter-length}
 use Rattle.flat.proofs.Blocks.{block, ordered-length}
@@ -31,6 +31,18 @@ sum-zeros : (n : ℕ) (f : ℕ → ℕ) → ((v : ℕ) → f v ≡ 0) → sum (t
 unfolding sum tabulate
 sum-zeros zero f h = omega arith
 sum-zeros (suc n) f h = omega (arith, h 0, sum-zeros n (λ i. f (suc i)) (λ v. h (suc v)))
+
+pub sum-append : (xs ys : List ℕ) → sum (xs ++ ys) ≡ sum xs + sum ys
+unfolding sum
+sum-append [] ys = omega arith
+sum-append (x ∷ xs) ys = omega (arith, sum-append xs ys)
+
+-- zeros behind a list add nothing
+pub sum-padded : (n : ℕ) (xs : List ℕ) → sum (padded n xs) ≡ sum xs
+unfolding padded
+sum-padded n xs =
+    let k = n - length xs in
+    omega (arith, sum-append xs (replicate k 0), ap sum (zeros k), sum-zeros k (λ i. 0) (λ v. refl))
 
 module _ (key : ℕ → ℕ) (b : ℕ) where
   abbrev many : List ℕ → ℕ → ℕ

@@ -19,7 +19,7 @@ use Rattle.flat.specs.Cards.{Code, codeOf, disks}
 use Rattle.flat.specs.Erasures.{erasures, places, vector}
 use Rattle.flat.specs.Faults.{accepted, listReport, erasuresReport, erasuresVector}
 use Rattle.flat.specs.Spans.{codeword, rows}
-use Rattle.flat.proofs.Lists.{length-tabulate, map-range, sum-padded}
+use Rattle.flat.proofs.Lists.{length-tabulate, map-range}
 use Rattle.flat.proofs.Reports.{unless-accepted, with-out, list-counted}
 use Rattle.flat.proofs.Cards.{accepted-card, card-accepted, count-in}
 use Rattle.flat.proofs.Rows.{rows-length, rows-indep}
@@ -27,7 +27,7 @@ use Rattle.flat.proofs.Fatal.{word-below, minimal-out, fatal-in}
 use Rattle.flat.proofs.Members.{In, in-nil}
 use Rattle.flat.proofs.Filters.{filter-none}
 use Rattle.flat.proofs.Blocks.{block, blocks, ordered-blocks, blocks-first, blocks-length}
-use Rattle.flat.proofs.Totals.{ordered-whole}
+use Rattle.flat.proofs.Totals.{sum-padded, ordered-whole}
 use Rattle.flat.proofs.ErasuresListed.{erasures-out, fatal-listed}
 
 module _ (C : Code) where

@@ -7,7 +7,7 @@ use mathlib.Core.List.{List, [], _∷_}
 use Prim.Native.Nat.{ℕ, _<_}
 use native.Mathlib.Nat.{lt-of-le-of-lt}
 use native.Mathlib.Omega.{arith}
-use borrow.Author.Tests.{lt-ltb}
+use borrow.Author.Tests.{not-false, lt-ltb}
 use lib.Dec.{T, ltb}
 use lib.ListN.{length, getD, take}
 use Rattle.gf2.specs.If.{if_then_else_}
@@ -31,10 +31,6 @@ pub yes-no : (b : Bool) → (accepted (yesNo b ∷ []) ≡ accepted (1 ∷ [])) 
 unfolding yesNo
 yes-no true = (λ e. tt, λ t. refl)
 yes-no false = (λ e. absurd (let z : _≡_ {A = ℕ} 0 1 = ap (λ (r : Report). getD (r .values) 0 0) e in omega arith), λ t. absurd t)
-
-not-false : (b : Bool) → not b ≡ false → T b
-not-false true e = tt
-not-false false e = true-T (sym e)
 
 module _ (card : List ℕ) (k m : ℕ) (ok : cardReport card ≡ accepted (k ∷ m ∷ [])) where
   abbrev C : Code
@@ -62,7 +58,7 @@ module _ (card : List ℕ) (k m : ℕ) (ok : cardReport card ≡ accepted (k ∷
       let p =
       passed (not (ltb d (disks C))) 8 [] (count ∷ []) (listReport (equations C d) n)
       (sym (with-accepted card (k ∷ m ∷ []) (λ D. equationsTests D d n) ok) ∙ e) in
-      (not-false (ltb d (disks C)) (p .0), p .1)
+      (true-T (not-false (ltb d (disks C)) (p .0)), p .1)
 
   pub equations-written : (d : ℕ) (slice : List ℕ) (count : ℕ) → equationsReport card d (length slice) ≡ accepted (count ∷ [])
       → (d < disks C) × (take count (equationsSlice card d slice) ≡ equations C d)

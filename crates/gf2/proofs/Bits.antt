@@ -164,6 +164,10 @@ has-not S i f = go (bit-cases S i)
 pub not-has : (S i : ℕ) → bit S i ≡ 0 → T (has S i) → ⊥
 not-has S i e t = let z : bit S i ≡ 1 = has-out S i t in omega arith
 
+-- the empty set has no disk
+pub no-disk : (i : ℕ) → T (has 0 i) → ⊥
+no-disk i = not-has 0 i (bit-of-zero i)
+
 -- the same as the test's value, for `rw`
 pub has-one : (S i : ℕ) → bit S i ≡ 1 → has S i ≡ true
 has-one S i e = T-true (has-in S i e)

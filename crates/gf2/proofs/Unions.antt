@@ -14,7 +14,7 @@ use lib.Pow.{pow-lt, ones-lt, ones-split, high}
 use Rattle.gf2.specs.Sets.{bit, has, first, _⊕_, _∪_, union}
 use Rattle.gf2.specs.Span.{InSpan}
 use Rattle.gf2.proofs.Tests.{dec, T-ext, ltb-in, ltb-out, below-or}
-use Rattle.gf2.proofs.Bits.{bit-lt, bit-cases, by-digits, bit-of-zero, bit-above, has-one, has-zero, not-has}
+use Rattle.gf2.proofs.Bits.{bit-lt, bit-cases, by-digits, bit-above, has-one, has-zero, not-has, no-disk}
 use Rattle.gf2.proofs.Xor.{⊕-comm}
 use Rattle.gf2.proofs.Subsets.{⊆-out, ⊕-left, same-disks, power-in}
 use Rattle.gf2.proofs.Spans.{first-in}
@@ -97,9 +97,6 @@ unfolding _∪_
 ∪-zero = or-zero-r
 
 -- ---- the sets of a list
-
-no-disk : (d : ℕ) → T (has 0 d) → ⊥
-no-disk d t = not-has 0 d (bit-of-zero d) t
 
 pub union-row : (bs : List ℕ) (d i : ℕ) → i < length bs → T (has (getD bs i 0) d) → T (has (union bs) d)
 unfolding union

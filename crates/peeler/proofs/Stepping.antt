@@ -8,7 +8,6 @@ use native.Mathlib.Omega.{arith}
 use lib.Dec.{T}
 use lib.ListN.{getD, take}
 use lib.Seq.{getD-take}
-use Rattle.gf2.specs.If.{if_then_else_}
 use Rattle.gf2.specs.Sets.{has, _∖_}
 use Rattle.gf2.proofs.Tests.{if-true, if-false}
 use Rattle.gf2.proofs.Subsets.{∖-out}

@@ -6,10 +6,10 @@ use mathlib.Core.Logic.{_≢_}
 use mathlib.Core.List.{List, [], _∷_}
 use Prim.Native.Nat.{ℕ, suc, _-_, _*_, _≤_, _<_}
 use native.Mathlib.Omega.{arith}
+use borrow.Author.Tests.{eqb-true, not-false}
 use lib.Dec.{T, eqb, ltb}
 use lib.ListN.{length, getD, replicate, length-map, List·getD-map, List·getD-append}
 use Rattle.gf2.specs.If.{if_then_else_}
-use Rattle.gf2.proofs.Tests.{eqb-out}
 use Rattle.flat.specs.Lists.{padded}
 use Rattle.flat.specs.Cards.{Code, codeOf, disks, countOk, firstBad, cardLength}
 use Rattle.flat.specs.Strips.{lengthOk}
@@ -84,11 +84,7 @@ tested-out C L budget Ss tray e =
     let b = passed-number (not (trayOk (length Ss))) 16 [] _ (a .1) in
     let c = passed-number (not (setsOk C Ss)) 7 [] _ (b .1) in
     let d = passed-number (not (eqb n (length Ss * (disks C * L)))) 6 [] (accepted (steps ∷ [])) (c .1) in
-    (eqb-out n (length Ss * (disks C * L)) (not-false (eqb n (length Ss * (disks C * L))) (d .0)), a .2 ∙ b .2 ∙ c .2 ∙ d .2)
-  where
-    not-false : (b : Bool) → not b ≡ false → T b
-    not-false true e = tt
-    not-false false e = absurd (let z : _≡_ {A = ℕ} 1 0 = ap (λ (b : Bool). if b then 1 else 0) e in omega arith)
+    (eqb-true n (length Ss * (disks C * L)) (not-false (eqb n (length Ss * (disks C * L))) (d .0)), a .2 ∙ b .2 ∙ c .2 ∙ d .2)
 
 module _ (card : List ℕ) (L budget : ℕ) (Ss tray : List ℕ) (ok : trayReport card L budget Ss tray .number ≡ 0) where
   C : Code

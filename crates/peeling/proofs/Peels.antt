@@ -3,7 +3,7 @@
 use mathlib.Core.Path.{_≡_, refl, sym, ap, _∙_, subst}
 use mathlib.Core.Bool.{Bool, true, false}
 use mathlib.Core.List.{List}
-use Prim.Native.Nat.{ℕ, zero, suc, _+_, _*_, _^_, _≤_, _<_}
+use Prim.Native.Nat.{ℕ, zero, suc, _+_, _*_, _^_, _≤_, _<_, min}
 use native.Mathlib.Nat.{not-suc-le-zero}
 use native.Mathlib.Omega.{arith}
 use lib.Dec.{T}
@@ -23,8 +23,8 @@ use Rattle.flat.proofs.CheckWords.{word-equation}
 use Rattle.flat.proofs.Duality.{survivor-in}
 use Rattle.repair_steps.specs.Steps.{Repairs}
 use Rattle.peeling.specs.Peeling.{lone, peelable, canStep, nextDisk, nextCheck, lessNext, withNext, Peeled, rest, more, peeled}
-use Rattle.peeling.specs.Theorems.{after, smaller, CutAtBudget, StepsCount, StuckBelowBudget, PeelingRepairs}
-use Rattle.peeling.proofs.Searches.{lowest-has, smaller-left, smaller-right, smaller-suc, smaller-most}
+use Rattle.peeling.specs.Theorems.{after, CutAtBudget, StepsCount, StuckBelowBudget, PeelingRepairs}
+use Rattle.peeling.proofs.Searches.{lowest-has}
 use Rattle.repair_steps.proofs.Stepped.{step-agrees, repair-none, repair-both}
 
 -- ---- a lone disk
@@ -133,21 +133,21 @@ peeling-repairs C L (suc b) S stripe long = go (canStep C S) (λ t. t) (peeling-
 -- ---- cut at the budget
 
 cut : (C : Code) (L b c S : ℕ) (stripe : List ℕ) → size S ≤ c
-    → peeled C L b S stripe .steps ≡ smaller b (peeled C L c S stripe .steps)
+    → peeled C L b S stripe .steps ≡ min b (peeled C L c S stripe .steps)
 unfolding peeled
-cut C L zero c S stripe h = sym (smaller-left 0 (peeled C L c S stripe .steps) (omega arith))
-cut C L (suc b) zero S stripe h = let e = steps-count C L (suc b) S stripe in omega (arith, smaller-right (suc b) 0 (omega arith))
+cut C L zero c S stripe h = omega arith
+cut C L (suc b) zero S stripe h = omega (arith, steps-count C L (suc b) S stripe)
 cut C L (suc b) (suc c) S stripe h = go (canStep C S) (λ t. t) (cut C L b c (lessNext C S) (withNext C L S stripe))
   where
     next : ℕ → Peeled
     next a = peeled C L a (lessNext C S) (withNext C L S stripe)
 
-    go : (p : Bool) → (T p → T (canStep C S)) → (size (lessNext C S) ≤ c → next b .steps ≡ smaller b (next c .steps))
-        → (if p then more (next b) else rest S stripe) .steps ≡ smaller (suc b) ((if p then more (next c) else rest S stripe) .steps)
+    go : (p : Bool) → (T p → T (canStep C S)) → (size (lessNext C S) ≤ c → next b .steps ≡ min b (next c .steps))
+        → (if p then more (next b) else rest S stripe) .steps ≡ min (suc b) ((if p then more (next c) else rest S stripe) .steps)
     go true f rec =
         let z = next-size C S (f tt) in
-        let e = rec (omega arith) in omega (arith, smaller-suc b (next c .steps))
-    go false f rec = sym (smaller-right (suc b) 0 (omega arith))
+        let e = rec (omega arith) in omega arith
+    go false f rec = omega arith
 
 made : (C : Code) (L b S : ℕ) (stripe : List ℕ) → peeled C L b S stripe ≡ after C L (peeled C L b S stripe .steps) S stripe
 unfolding peeled after
@@ -167,5 +167,4 @@ cut-at-budget C L b c S stripe h = (cut C L b c S stripe h, made C L b S stripe)
 
 -- so never more than the budget
 pub steps-most : (C : Code) (L b S : ℕ) (stripe : List ℕ) → peeled C L b S stripe .steps ≤ b
-steps-most C L b S stripe =
-    subst (λ (n : ℕ). n ≤ b) (sym (cut C L b (size S) S stripe (omega arith))) (smaller-most b (peeled C L (size S) S stripe .steps))
+steps-most C L b S stripe = omega (arith, cut C L b (size S) S stripe (omega arith))

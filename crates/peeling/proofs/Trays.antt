@@ -1,50 +1,33 @@
 -- Trays: the stripes of a tray one by one.
 -- Assumes nothing.
 use mathlib.Core.Path.{_≡_, refl, sym, ap, ap₂, _∙_, subst}
-use mathlib.Core.Logic.{_⊎_, inl, inr}
 use mathlib.Core.List.{List, [], _∷_, _++_}
-use Prim.Native.Nat.{ℕ, zero, suc, _+_, _-_, _*_, _≤_, _<_}
+use Prim.Native.Nat.{ℕ, zero, suc, _+_, _-_, _*_, _≤_, _<_, min}
 use native.Mathlib.Nat.{not-suc-le-zero, mul-le-mul-right}
 use native.Mathlib.Omega.{arith}
 use lib.Dec.{T}
 use lib.ListN.{length, getD, take, drop, length-append, length-drop}
 use lib.Seq.{take-at, drop-at, drop-drop, length-take-le}
 use Rattle.gf2.specs.Sets.{size}
-use Rattle.gf2.proofs.Tests.{below-or}
 use Rattle.flat.specs.Cards.{Code, disks}
 use Rattle.repair_steps.specs.Steps.{Repairs}
-use Rattle.peeling.specs.Peeling.{lone, Peeled, rest, peeled}
+use Rattle.peeling.specs.Peeling.{lone, Peeled, peeled}
 use Rattle.peeling.specs.Trays.{trayPeeled, total, lefts, joined}
-use Rattle.peeling.specs.Theorems.{after, smaller, sizes, stripeOf, result, TrayCut, TrayCount, TrayTurn, TrayEnough}
-use Rattle.peeling.proofs.Searches.{smaller-left, smaller-right}
+use Rattle.peeling.specs.Theorems.{after, sizes, stripeOf, result, TrayCut, TrayCount, TrayTurn, TrayEnough}
 use Rattle.peeling.proofs.Peels.{steps-count, stuck-below-budget, peeling-repairs, cut-at-budget}
 
 -- ---- steps
 
-smaller-add : (b r q : ℕ) → smaller b r + smaller (b - smaller b r) q ≡ smaller b (r + q)
-smaller-add b r q = go (below-or b r) (below-or b (r + q))
-  where
-    go : (b < r) ⊎ (r ≤ b) → (b < r + q) ⊎ (r + q ≤ b) → smaller b r + smaller (b - smaller b r) q ≡ smaller b (r + q)
-    go (inl h) k =
-        rw (smaller-left b r (omega arith)) (omega (arith, smaller-left (b - b) q (omega arith), smaller-left b (r + q) (omega arith)))
-    go (inr h) (inl k) =
-        rw (smaller-right b r h) (omega (arith, smaller-left (b - r) q (omega arith), smaller-left b (r + q) (omega arith)))
-    go (inr h) (inr k) =
-        rw (smaller-right b r h) (omega (arith, smaller-right (b - r) q (omega arith), smaller-right b (r + q) k))
-
 pub tray-cut : TrayCut
 unfolding trayPeeled total sizes
-tray-cut C L b c [] tray h = sym (smaller-right b 0 (omega arith))
+tray-cut C L b c [] tray h = omega arith
 tray-cut C L b c (S ∷ Ss) tray h =
     let w = disks C * L in
     let r = peeled C L b S (take w tray) in
     let s = peeled C L c S (take w tray) in
     let n = steps-count C L c S (take w tray) in
-    let e : r .steps ≡ smaller b (s .steps) = cut-at-budget C L b c S (take w tray) (omega arith) .0 in
-    let q = tray-cut C L (b - r .steps) (c - s .steps) Ss (drop w tray) (omega arith) in
-    ap (λ (x : ℕ). r .steps + x) q
-    ∙ ap (λ (x : ℕ). x + smaller (b - x) (total (trayPeeled C L (c - s .steps) Ss (drop w tray)))) e
-    ∙ smaller-add b (s .steps) (total (trayPeeled C L (c - s .steps) Ss (drop w tray)))
+    let e : r .steps ≡ min b (s .steps) = cut-at-budget C L b c S (take w tray) (omega arith) .0 in
+    let q = tray-cut C L (b - r .steps) (c - s .steps) Ss (drop w tray) (omega arith) in omega arith
 
 pub tray-count : TrayCount
 unfolding trayPeeled total lefts sizes
@@ -64,7 +47,7 @@ tray-enough C L b c (S ∷ Ss) tray h k =
     let n = steps-count C L c S (take w tray) in
     let x = cut-at-budget C L b c S (take w tray) (omega arith) in
     let y = cut-at-budget C L c c S (take w tray) (omega arith) in
-    let e : r .steps ≡ q .steps = x .0 ∙ smaller-right b (q .steps) (omega arith) in
+    let e : r .steps ≡ q .steps = omega (arith, x .0) in
     let same : r ≡ q = x .1 ∙ ap (λ (i : ℕ). after C L i S (take w tray)) e ∙ sym (y .1) in
     let tail = tray-enough C L (b - q .steps) (c - q .steps) Ss (drop w tray) (omega arith) (omega arith) in
     ap₂ (λ (x : Peeled) (xs : List Peeled). x ∷ xs) same (ap (λ (i : ℕ). trayPeeled C L (b - i) Ss (drop w tray)) e ∙ tail)

@@ -2,12 +2,12 @@
 -- Assumes nothing.
 use mathlib.Core.Path.{_≡_}
 use mathlib.Core.Logic.{_≢_, _↔_}
-use mathlib.Core.List.{List, [], _∷_}
-use Prim.Native.Nat.{ℕ, zero, suc, _+_, _-_, _*_, _≤_, _<_}
-use lib.Dec.{T, leb}
+use mathlib.Core.List.{List, [], _∷_, map}
+use Prim.Native.Nat.{ℕ, zero, suc, _+_, _-_, _*_, _≤_, _<_, min}
+use lib.Dec.{T}
 use lib.ListN.{length, getD, take, drop}
-use Rattle.gf2.specs.If.{if_then_else_}
 use Rattle.gf2.specs.Sets.{has, size}
+use Rattle.flat.specs.Lists.{sum}
 use Rattle.flat.specs.Cards.{Code, codeOf, disks}
 use Rattle.flat.specs.Strips.{byteOf, given}
 use Rattle.flat.specs.Erasures.{fatal}
@@ -46,10 +46,6 @@ unfolding lessNext withNext
 after C L zero S stripe = rest S stripe
 after C L (suc i) S stripe = more (after C L i (lessNext C S) (withNext C L S stripe))
 
--- the smaller of two numbers
-unfoldable pub smaller : ℕ → ℕ → ℕ
-smaller a b = if leb a b then a else b
-
 -- Steps and what is left go by the code, the budget and the set alone.
 abbrev pub StepsBySet : Type 0
 StepsBySet =
@@ -62,7 +58,7 @@ StepsBySet =
 abbrev pub CutAtBudget : Type 0
 CutAtBudget =
     (C : Code) (L budget enough S : ℕ) (stripe : List ℕ) → size S ≤ enough
-    → (peeled C L budget S stripe .steps ≡ smaller budget (peeled C L enough S stripe .steps))
+    → (peeled C L budget S stripe .steps ≡ min budget (peeled C L enough S stripe .steps))
     × (peeled C L budget S stripe ≡ after C L (peeled C L budget S stripe .steps) S stripe)
 
 -- Each step takes one disk out of the set.
@@ -92,9 +88,8 @@ PeelingFatal = (C : Code) (L budget S : ℕ) (stripe : List ℕ) → T (fatal C 
 
 -- how many disks some sets hold in all
 unfoldable pub sizes : List ℕ → ℕ
-unfolding size
-sizes [] = 0
-sizes (S ∷ Ss) = size S + sizes Ss
+unfolding sum size
+sizes Ss = sum (map size Ss)
 
 -- stripe i of a tray
 unfoldable pub stripeOf : Code → ℕ → ℕ → List ℕ → List ℕ
@@ -109,7 +104,7 @@ result rs i = getD rs i (rest 0 [])
 abbrev pub TrayCut : Type 0
 TrayCut =
     (C : Code) (L budget enough : ℕ) (Ss tray : List ℕ) → sizes Ss ≤ enough
-    → total (trayPeeled C L budget Ss tray) ≡ smaller budget (total (trayPeeled C L enough Ss tray))
+    → total (trayPeeled C L budget Ss tray) ≡ min budget (total (trayPeeled C L enough Ss tray))
 
 -- They never exceed the disks lost in the tray: each takes one of them out.
 abbrev pub TrayCount : Type 0
@@ -143,7 +138,7 @@ NoDisksFault =
 -- peeled with what the stripes before it left of the budget, and so repaired; each strip that is not left lost is the one that every content
 -- agreeing with the survivors has; and where the budget is not too small every stripe is stuck.
 pub record TrayRight (card : List ℕ) (L budget : ℕ) (Ss tray : List ℕ) : Type 0 where
-  pub steps : trayReport card L budget Ss tray ≡ accepted (smaller budget (total (trayPeeled (codeOf card) L (sizes Ss) Ss tray)) ∷ [])
+  pub steps : trayReport card L budget Ss tray ≡ accepted (min budget (total (trayPeeled (codeOf card) L (sizes Ss) Ss tray)) ∷ [])
   pub most : total (trayPeeled (codeOf card) L (sizes Ss) Ss tray) ≤ sizes Ss
   pub long : length (trayBytes card L budget Ss tray) ≡ length tray
   pub turn : (i : ℕ) → i < length Ss

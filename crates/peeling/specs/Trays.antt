@@ -1,8 +1,9 @@
 -- Document 02, request [1]: a tray, up to eight stripes of one code in one list of bytes, one stripe of disks C * L bytes after the other.
 -- Assumes nothing.
 use mathlib.Core.List.{List, [], _∷_, _++_, map}
-use Prim.Native.Nat.{ℕ, _+_, _-_, _*_}
+use Prim.Native.Nat.{ℕ, _-_, _*_}
 use lib.ListN.{take, drop}
+use Rattle.flat.specs.Lists.{sum}
 use Rattle.flat.specs.Cards.{Code, disks}
 use Rattle.peeling.specs.Peeling.{Peeled, peeled}
 
@@ -15,8 +16,8 @@ trayPeeled C L budget (S ∷ Ss) tray =
 
 -- all steps made, each stripe's remaining set, and the tray
 unfoldable pub total : List Peeled → ℕ
-total [] = 0
-total (r ∷ rs) = r .steps + total rs
+unfolding sum
+total rs = sum (map (λ r. r .steps) rs)
 
 unfoldable pub lefts : List Peeled → List ℕ
 lefts = map (λ r. r .left)

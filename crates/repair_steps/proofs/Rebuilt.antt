@@ -10,7 +10,7 @@ use lib.Seq.{ext-getD}
 use Rattle.gf2.specs.If.{if_then_else_}
 use Rattle.gf2.specs.Sets.{has}
 use Rattle.gf2.proofs.Tests.{dec, T-ext}
-use Rattle.gf2.proofs.Bits.{bit-of-zero, not-has}
+use Rattle.gf2.proofs.Bits.{no-disk}
 use Rattle.flat.specs.Cards.{Code, disks}
 use Rattle.flat.specs.Strips.{byteOf, holds, given}
 use Rattle.flat.specs.Rebuilding.{agrees, contents, agreeing, restored}
@@ -32,7 +32,7 @@ module _ (C : Code) (L : ℕ) where
   all-given new c e a =
       ext-getD 0 new (given C L c) (e ∙ sym (given-length c))
       (λ p m. let h = places (disks C) L p (subst (λ (x : ℕ). p < x) e m) in
-      at-place L new p ∙ sym (agrees-out C L 0 new c a (p % L) (h .1) (p / L) (h .0) (not-has 0 (p / L) (bit-of-zero (p / L))))
+      at-place L new p ∙ sym (agrees-out C L 0 new c a (p % L) (h .1) (p / L) (h .0) (no-disk (p / L)))
       ∙ sym (given-byte C L c (p % L) (p / L) (h .1) (h .0)) ∙ sym (at-place L (given C L c) p))
 
   -- the rebuilder's stripe is the whole stripe that the content gives

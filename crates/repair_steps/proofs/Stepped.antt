@@ -28,7 +28,7 @@ use Rattle.flat.proofs.Duality.{told-not-held}
 use Rattle.flat.proofs.CheckWords.{equation-sum}
 use Rattle.flat.proofs.Told.{among-lt}
 use Rattle.flat.proofs.Agreement.{agrees-in, agrees-out, agree-sum}
-use Rattle.repair_steps.specs.Steps.{xored, Repairs}
+use Rattle.repair_steps.specs.Steps.{xored}
 use Rattle.repair_steps.specs.Theorems.{XoredFilled, StepAgrees, RepairNone, RepairBoth, RepairGives}
 
 pub xored-filled : XoredFilled

@@ -8,7 +8,7 @@ use lib.ListN.{length, take, drop, length-drop}
 use lib.Seq.{drop-drop, length-take-le}
 use Rattle.flat.specs.Lists.{put}
 use Rattle.flat.specs.Cards.{Code, disks}
-use Rattle.peeling.specs.Peeling.{Peeled, peeled}
+use Rattle.peeling.specs.Peeling.{peeled}
 use Rattle.peeling.proofs.Peels.{peeling-repairs}
 
 module _ (at w : ℕ) (s : List ℕ) where

@@ -1,16 +1,17 @@
 -- The stripes of a tray in turn: what stands after some of them, and after all.
 -- Assumes nothing.
 use mathlib.Core.Path.{_≡_, refl, sym, ap, ap₂, _∙_, subst}
-use mathlib.Core.List.{List, [], _∷_, _++_, append-assoc}
+use mathlib.Core.List.{List, [], _∷_, _++_, map, append-nil, append-assoc, map-append}
 use Prim.Native.Nat.{ℕ, zero, suc, _+_, _-_, _*_, _≤_, _<_}
 use native.Mathlib.Nat.{mul-le-mul-right}
 use native.Mathlib.Numerals.{add-one}
 use native.Mathlib.Omega.{arith}
 use lib.ListN.{length, getD, take, drop, replicate, set, length-append, length-map, drop-of-length-le, List·getD-map}
 use lib.Seq.{take-suc, take-all, drop-at, ext-getD}
-use Rattle.flat.specs.Lists.{tabulate, padded, put}
+use Rattle.flat.specs.Lists.{sum, tabulate, padded, put}
 use Rattle.flat.specs.Cards.{Code, disks}
 use Rattle.flat.proofs.Lists.{length-tabulate, getD-tabulate, fill-none, fill-more, put-next}
+use Rattle.flat.proofs.Totals.{sum-append}
 use Rattle.peeling.specs.Peeling.{Peeled, rest, peeled}
 use Rattle.peeling.specs.Trays.{trayPeeled, total, lefts, joined}
 use Rattle.peeling.specs.Theorems.{stripeOf, result}
@@ -19,10 +20,6 @@ use Rattle.peeling.proofs.Trays.{tray-length, tray-longs, tray-turn}
 
 -- ---- results one after the other
 
-append-nil : (xs : List ℕ) → xs ++ [] ≡ xs
-append-nil [] = refl
-append-nil (x ∷ xs) = ap (λ (l : List ℕ). x ∷ l) (append-nil xs)
-
 joined-two : (a b : List Peeled) → joined (a ++ b) ≡ joined a ++ joined b
 unfolding joined
 joined-two [] b = refl
@@ -30,8 +27,7 @@ joined-two (r ∷ a) b = ap (λ (x : List ℕ). r .stripe ++ x) (joined-two a b)
 
 total-two : (a b : List Peeled) → total (a ++ b) ≡ total a + total b
 unfolding total
-total-two [] b = let z : total b ≡ 0 + total b = omega arith in z
-total-two (r ∷ a) b = let e = total-two a b in omega arith
+total-two a b = ap sum (map-append (λ r. r .steps) a b) ∙ sum-append (map (λ r. r .steps) a) (map (λ r. r .steps) b)
 
 -- ---- the first i stripes are done
 

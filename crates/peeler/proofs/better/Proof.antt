@@ -1,6 +1,6 @@
 -- `peeler::better` meets its contract.
 -- Assumes nothing.
-use mathlib.Core.Path.{_≡_, sym, _∙_}
+use mathlib.Core.Path.{sym, _∙_}
 use borrow.Author.Needs.{needs}
 use Rattle.peeler.proofs.Passing.{not-one, one-first, one-lower}
 use Rattle.peeler.proofs.better.Statement.{statement}
