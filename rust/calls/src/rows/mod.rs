@@ -55,7 +55,12 @@ fn set_faults() -> Vec<Fault> {
 
 /// Refusal 7, of a stripe of C1 with strips of 3 bytes.
 fn stripe_faults() -> Vec<Fault> {
-    ways(7, vec![-1, 1, -21, 256], |input, &more| {
+    length_faults(vec![-1, 1, -21, 256])
+}
+
+/// Refusal 7, of a stripe or tray with so many bytes more.
+fn length_faults(changes: Vec<isize>) -> Vec<Fault> {
+    ways(7, changes, |input, &more| {
         let len = input.stripe.len() as isize + more;
         input.stripe.resize(len as usize, 0)
     })

@@ -1,7 +1,7 @@
 //! The calls on trays of stripes.
 
 use super::strips::{good_stripe, long};
-use super::{card_then, strip_len_faults, ways};
+use super::{card_then, length_faults, strip_len_faults, ways};
 use crate::cards::{any_card, any_set, disks_of, every_card};
 use crate::choice::Choice;
 use crate::input::{bytes_of, code, Input, Told};
@@ -25,11 +25,7 @@ pub const QUICK_REPAIR: Row = Row {
         let counts = ways(17, vec![0, 9, 256 + 3], |input, &count| input.sets.resize(count, 1));
         let wrong: Vec<(usize, u32)> = vec![(2, 1 << 7), (2, 1 << 31), (0, !0)];
         let outside = ways(8, wrong, |input, &(at, disks)| input.sets[at] |= disks);
-        let lengths = ways(7, vec![-1, 1, -21, 21, -63], |input, &more| {
-            let len = input.stripe.len() as isize + more;
-            input.stripe.resize(len as usize, 0)
-        });
-        card_then([strip_len_faults(), counts, outside, lengths])
+        card_then([strip_len_faults(), counts, outside, length_faults(vec![-1, 1, -21, 21, -63])])
     },
     heavy: long,
     engine: |input, lent| {
