@@ -5,10 +5,10 @@ use mathlib.Core.Bool.{true}
 use mathlib.Core.List.{List, []}
 use Prim.Native.Nat.{ℕ, _*_, _≤_, _<_, _^_}
 use native.Mathlib.Omega.{arith}
-use lib.Dec.{ltb, eqb, leb}
+use lib.Dec.{ltb, eqb}
 use lib.ListN.{length, getD}
 use Rattle.gf2.specs.Sets.{size}
-use Rattle.gf2.proofs.Tests.{true-T, and-out, leb-out, ltb-out}
+use Rattle.gf2.proofs.Tests.{true-T, ltb-out}
 use Rattle.gf2.proofs.Sizes.{size-lt}
 use Rattle.flat.specs.Cards.{Code, codeOf, disks, setOk}
 use Rattle.flat.specs.Strips.{lengthOk}
@@ -16,14 +16,15 @@ use Rattle.flat.proofs.Quantifiers.{every-out}
 use Rattle.peeling.specs.Trays.{trayPeeled, total}
 use Rattle.peeling.specs.Faults.{trayOk, setsOk, trayTests, trayReport}
 use Rattle.peeling.proofs.Trays.{tray-count, sizes-most}
+use Rattle.peeling.proofs.Calls.{stripes-most}
 use Rattle.export_bounds.specs.Coded.{Fits}
 use Rattle.export_bounds.proofs.Values.{named, test, with-fits}
 
 steps-few : (C : Code) (L budget : ℕ) (Ss tray : List ℕ) → disks C ≤ 32 → trayOk (length Ss) ≡ true → setsOk C Ss ≡ true
     → total (trayPeeled C L budget Ss tray) ≤ 256
-unfolding trayOk setsOk setOk
+unfolding setsOk setOk
 steps-few C L budget Ss tray few ec es =
-    let n : length Ss ≤ 8 = leb-out (length Ss) 8 (and-out (leb 1 (length Ss)) (leb (length Ss) 8) (true-T ec) .1) in
+    let n = stripes-most (length Ss) ec in
     let each : (i : ℕ) → i < length Ss → size (getD Ss i 0) ≤ 32 = λ i l.
     let h = size-lt (disks C) (getD Ss i 0) (ltb-out (getD Ss i 0) (2 ^ disks C) (every-out (length Ss) (λ j. ltb (getD Ss j 0) (2 ^ disks C)) (true-T es) i l)) in
     omega arith in

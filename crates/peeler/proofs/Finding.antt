@@ -37,12 +37,12 @@ record Best (C : Code) (S n : ℕ) (r : Found) : Type 0 where
   least : (d j : ℕ) → j < n → T (lone C S d j) → disk ≤ d
   first : (j : ℕ) → j < n → T (lone C S disk j) → by ≤ j
 
-better-in : (c w : ℕ) → size c ≡ 1 → (w ≢ 0 → c < w) → T (better c w)
+pub better-in : (c w : ℕ) → size c ≡ 1 → (w ≢ 0 → c < w) → T (better c w)
 unfolding better
 better-in c w e f =
     and-in (eqb (size c) 1) (eqb w 0 || ltb c w) (eqb-in e) (unless-in (eqb w 0) (ltb c w) (λ g. ltb-in (f (λ z. g (eqb-in z)))))
 
-better-out : (c w : ℕ) → T (better c w) → (size c ≡ 1) × (w ≢ 0 → c < w)
+pub better-out : (c w : ℕ) → T (better c w) → (size c ≡ 1) × (w ≢ 0 → c < w)
 unfolding better
 better-out c w t =
     let p = and-out (eqb (size c) 1) (eqb w 0 || ltb c w) t in

@@ -1,35 +1,29 @@
 -- The pass over the checks, one check at a time.
 -- Assumes nothing.
 use mathlib.Core.Path.{_≡_, refl, sym, _∙_, subst}
-use mathlib.Core.Bool.{true, false, _||_}
+use mathlib.Core.Bool.{true, false}
 use mathlib.Core.Logic.{_≢_}
 use mathlib.Core.List.{List}
 use Prim.Native.Nat.{ℕ, _+_}
 use native.Mathlib.Numerals.{add-one}
-use lib.Dec.{eqb, ltb}
+use lib.Dec.{ltb}
 use lib.ListN.{getD}
 use Rattle.gf2.specs.If.{if_then_else_}
 use Rattle.gf2.specs.Sets.{size, _∩_}
-use Rattle.gf2.proofs.Tests.{true-T, false-T, T-true, T-false, T-ext, and-in, and-out, unless-in, unless-out, eqb-in, eqb-out, if-true, if-false}
+use Rattle.gf2.proofs.Tests.{true-T, false-T, T-true, T-false, T-ext, ltb-in, ltb-out, if-true, if-false}
 use Rattle.peeler.specs.Forms.{Found, better, found}
+use Rattle.peeler.proofs.Finding.{better-in, better-out}
 
 -- ---- the test
 
 pub not-one : (c s : ℕ) → size c ≢ 1 → better c s ≡ false
-unfolding better
-not-one c s f = T-false {b = better c s} (λ t. f (eqb-out (size c) 1 (and-out (eqb (size c) 1) (eqb s 0 || ltb c s) t .0)))
+not-one c s f = T-false {b = better c s} (λ t. f (better-out c s t .0))
 
 pub one-first : (c s : ℕ) → size c ≡ 1 → s ≡ 0 → better c s ≡ true
-unfolding better
-one-first c s e z =
-    T-true {b = better c s} (and-in (eqb (size c) 1) (eqb s 0 || ltb c s) (eqb-in e) (unless-in (eqb s 0) (ltb c s) (λ g. absurd (g (eqb-in z)))))
+one-first c s e z = T-true {b = better c s} (better-in c s e (λ f. absurd (f z)))
 
 pub one-lower : (c s : ℕ) → size c ≡ 1 → s ≢ 0 → better c s ≡ ltb c s
-unfolding better
-one-lower c s e f =
-    T-ext {a = better c s} {b = ltb c s}
-    (λ t. unless-out (eqb s 0) (ltb c s) (and-out (eqb (size c) 1) (eqb s 0 || ltb c s) t .1) (λ z. f (eqb-out s 0 z)))
-    (λ t. and-in (eqb (size c) 1) (eqb s 0 || ltb c s) (eqb-in e) (unless-in (eqb s 0) (ltb c s) (λ g. t)))
+one-lower c s e f = T-ext {a = better c s} {b = ltb c s} (λ t. ltb-in (better-out c s t .1 f)) (λ t. better-in c s e (λ g. ltb-out c s t))
 
 -- ---- one check more
 

@@ -7,9 +7,10 @@ use mathlib.Core.List.{List, [], _∷_}
 use Prim.Native.Nat.{ℕ, suc, _-_, _*_, _≤_, _<_}
 use native.Mathlib.Omega.{arith}
 use borrow.Author.Tests.{eqb-true, not-false}
-use lib.Dec.{T, eqb, ltb}
+use lib.Dec.{T, eqb, ltb, leb}
 use lib.ListN.{length, getD, replicate, length-map, List·getD-map, List·getD-append}
 use Rattle.gf2.specs.If.{if_then_else_}
+use Rattle.gf2.proofs.Tests.{true-T, and-out, leb-out}
 use Rattle.flat.specs.Lists.{padded}
 use Rattle.flat.specs.Cards.{Code, codeOf, disks, countOk, firstBad, cardLength}
 use Rattle.flat.specs.Strips.{lengthOk}
@@ -73,6 +74,10 @@ no-disks-fault card L budget Ss tray = (
 )
 
 -- ---- an accepted tray call
+
+pub stripes-most : (n : ℕ) → trayOk n ≡ true → n ≤ 8
+unfolding trayOk
+stripes-most n e = leb-out n 8 (and-out (leb 1 n) (leb n 8) (true-T {b = trayOk n} e) .1)
 
 tested-out : (C : Code) (L budget : ℕ) (Ss tray : List ℕ) → trayTests C L budget Ss tray .number ≡ 0
     → (length tray ≡ length Ss * (disks C * L)) × (trayTests C L budget Ss tray ≡ accepted (total (trayPeeled C L budget Ss tray) ∷ []))

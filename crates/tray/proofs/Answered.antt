@@ -35,10 +35,6 @@ unfolding trayOk
 some-stripes n h =
     T-ext {a = leb n 8} {b = trayOk n} (λ t. and-in (leb 1 n) (leb n 8) (leb-in h) t) (λ t. and-out (leb 1 n) (leb n 8) t .1)
 
-pub stripes-most : (n : ℕ) → trayOk n ≡ true → n ≤ 8
-unfolding trayOk
-stripes-most n e = leb-out n 8 (and-out (leb 1 n) (leb n 8) (true-T {b = trayOk n} e) .1)
-
 -- a set that is none among some, and all of them
 pub one-outside : (n : ℕ) (Ss : List ℕ) (i : ℕ) → i < length Ss → ltb (getD Ss i 0) (2 ^ n) ≡ false
     → false ≡ every (length Ss) (λ j. ltb (getD Ss j 0) (2 ^ n))

@@ -16,8 +16,9 @@ use Rattle.flat.specs.Strips.{lengthOk}
 use Rattle.flat.specs.Faults.{accepted, unlessRefused}
 use Rattle.flat.proofs.Lengths.{length-in, stripe-small}
 use Rattle.peeling.specs.Faults.{trayOk}
+use Rattle.peeling.proofs.Calls.{stripes-most}
 use Rattle.tray.specs.Reports.{report}
-use Rattle.tray.proofs.Answered.{length-report, count-report, sets-report, size-report, past-report, stripes-most, left-alone}
+use Rattle.tray.proofs.Answered.{length-report, count-report, sets-report, size-report, past-report, left-alone}
 use Rattle.tray.proofs.repair_columns.Statement.{statement}
 use Rattle.tray.proofs.repair_columns.Tie as tie
 
