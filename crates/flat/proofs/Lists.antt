@@ -120,6 +120,13 @@ fill-end n j f h =
     go i (inl l) = rw (lt-ltb i j l) (getD-tabulate j f i l)
     go i (inr l) = rw (le-ltb i j l) (List·getD-eq-default (tabulate j f) 0 (rw (length-tabulate j f) l))
 
+-- the first entries of a table
+pub take-table : (m n : ℕ) (f : ℕ → ℕ) → m ≤ n → take m (tabulate n f) ≡ tabulate m f
+take-table m n f h =
+    let l : length (take m (tabulate n f)) ≡ m = length-take-le m (tabulate n f) (omega (arith, length-tabulate n f)) in
+    ext-getD 0 (take m (tabulate n f)) (tabulate m f) (l ∙ sym (length-tabulate m f))
+    (λ i t. let u : i < m = omega arith in getD-take m (tabulate n f) i 0 u ∙ getD-tabulate n f i (omega arith) ∙ sym (getD-tabulate m f i u))
+
 -- ---- runs put into a list
 
 pub put-none : (s : List ℕ) (at : ℕ) → put s at [] ≡ s

@@ -1,26 +1,22 @@
--- The bytes of a stripe by disk and place, the stripe that a content gives, and encoding as filling.
+-- The bytes of a stripe by disk and place, and the stripe that a content gives.
 -- Assumes nothing.
 use mathlib.Core.Path.{_≡_, refl, sym, ap, ap₂, _∙_}
-use mathlib.Core.Bool.{Bool, true, false, not}
+use mathlib.Core.Bool.{Bool, true, false}
 use mathlib.Core.List.{List}
 use Prim.Native.Nat.{ℕ, zero, suc, _+_, _-_, _*_, _/_, _%_, _<_}
 use native.Mathlib.Nat.{mod-lt, zero-lt-suc, div-lt-iff-lt-mul, div-add-mod'}
 use native.Mathlib.Omega.{arith}
 use lib.Arith.{digits-lt, digits-div, digits-mod}
-use lib.Dec.{T, ltb}
+use lib.Dec.{T}
 use lib.ListN.{length, getD, take}
 use lib.Seq.{getD-take}
 use Rattle.gf2.specs.If.{if_then_else_}
 use Rattle.gf2.specs.Sets.{has, over}
-use Rattle.gf2.proofs.Tests.{ltb-out}
-use Rattle.gf2.proofs.Sums.{over-cong}
 use Rattle.flat.specs.Lists.{tabulate}
-use Rattle.flat.specs.Cards.{Code, disks, column}
-use Rattle.flat.specs.Strips.{byteOf, holds, given, encoded}
-use Rattle.flat.specs.Repairs.{filled, parities}
-use Rattle.flat.specs.Rebuilt.{EncodedFilled}
+use Rattle.flat.specs.Cards.{Code, disks}
+use Rattle.flat.specs.Strips.{byteOf, holds, given}
+use Rattle.flat.specs.Repairs.{filled}
 use Rattle.flat.proofs.Lists.{getD-tabulate, tabulate-cong}
-use Rattle.flat.proofs.Quantifiers.{has-set}
 
 -- ---- disk and place
 
@@ -53,26 +49,7 @@ pub given-byte : (C : Code) (L : ℕ) (content : List ℕ) (t i : ℕ) → t < L
 unfolding given
 given-byte C L content t i h l = byte-table (disks C) L (λ u j. holds C (byteOf L content u) j) t i h l
 
-pub encoded-filled : EncodedFilled
-unfolding encoded given filled parities holds
-encoded-filled C L stripe e =
-    tabulate-cong (disks C * L) (λ p. holds C (byteOf L (take (C .k * L) stripe) (p % L)) (p / L)) new
-    (λ p l. let q = places (disks C) L p l in
-    go p (q .1) (ltb (p / L) (C .k)) (λ t. ltb-out (p / L) (C .k) t)
-    ∙ ap (λ (b : Bool). if b then over (C .k) (column C (p / L - C .k)) (byteOf L stripe (p % L)) else getD stripe p 0)
-    (sym (has-set (disks C) (λ d. not (ltb d (C .k))) (p / L) (q .0))))
-    ∙ ap (λ (n : ℕ). tabulate n new) (sym e)
-  where
-    new : ℕ → ℕ
-    new p = if has (parities C) (p / L) then over (C .k) (column C (p / L - C .k)) (byteOf L stripe (p % L)) else getD stripe p 0
-
-    go : (p : ℕ) → p % L < L → (b : Bool) → (T b → p / L < C .k)
-        → (if b then byteOf L (take (C .k * L) stripe) (p % L) (p / L) else over (C .k) (column C (p / L - C .k)) (byteOf L (take (C .k * L) stripe) (p % L)))
-        ≡ (if not b then over (C .k) (column C (p / L - C .k)) (byteOf L stripe (p % L)) else getD stripe p 0)
-    go p h true l = byte-take (C .k) L stripe (p % L) (p / L) h (l tt) ∙ sym (at-place L stripe p)
-    go p h false l =
-        over-cong (C .k) (column C (p / L - C .k)) (byteOf L (take (C .k * L) stripe) (p % L)) (byteOf L stripe (p % L))
-        (λ d m t. byte-take (C .k) L stripe (p % L) d h m)
+-- ---- strips that are filled
 
 -- filling goes by the sets of the disks that are filled
 pub filled-cong : (n L : ℕ) (E F : ℕ → ℕ) (S : ℕ) (stripe : List ℕ) → ((d : ℕ) → T (has S d) → E d ≡ F d) → filled n L E S stripe ≡ filled n L F S stripe

@@ -21,7 +21,6 @@ use Rattle.flat.proofs.EquationsListed as equated
 use Rattle.flat.proofs.Verdicts as verdicts
 use Rattle.flat.proofs.Columns as columns
 use Rattle.flat.proofs.Told as left
-use Rattle.flat.proofs.Positions as positions
 use Rattle.flat.proofs.Agreement as agreement
 use Rattle.flat.proofs.Consistency as consistency
 use Rattle.flat.proofs.Rebuilds as rebuilds
@@ -127,9 +126,6 @@ pub long-slices-accepted : Theorems.LongSlicesAccepted
 long-slices-accepted = verdicts.long-slices-accepted
 
 -- ---- rebuilding
-
-pub encoded-filled : Rebuilt.EncodedFilled
-encoded-filled = positions.encoded-filled
 
 pub equation-left : Rebuilt.EquationLeft
 equation-left = left.equation-left

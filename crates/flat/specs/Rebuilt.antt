@@ -3,24 +3,18 @@
 use mathlib.Core.Path.{_≡_}
 use mathlib.Core.Logic.{_≢_, _↔_}
 use mathlib.Core.List.{List, []}
-use Prim.Native.Nat.{ℕ, _-_, _*_, _<_}
+use Prim.Native.Nat.{ℕ, _*_, _<_}
 use lib.Dec.{T}
 use lib.ListN.{length}
 use Rattle.gf2.specs.Sets.{has, _⊆_}
 use Rattle.flat.specs.Lists.{Bytes}
-use Rattle.flat.specs.Cards.{Code, codeOf, disks, column}
-use Rattle.flat.specs.Strips.{byteOf, given, encoded}
+use Rattle.flat.specs.Cards.{Code, codeOf, disks}
+use Rattle.flat.specs.Strips.{byteOf, given}
 use Rattle.flat.specs.Erasures.{survivors, fatal, undeterminedSet, determinedSet}
 use Rattle.flat.specs.Equations.{equation}
 use Rattle.flat.specs.Rebuilding.{agrees, agreeing, restored}
 use Rattle.flat.specs.Faults.{rebuildReport, rebuildStripe}
-use Rattle.flat.specs.Repairs.{filled, parities, consistent, equationAmong}
-
--- Encoding fills the parity strips, each by its column.
-abbrev pub EncodedFilled : Type 0
-EncodedFilled =
-    (C : Code) (L : ℕ) (stripe : List ℕ) → length stripe ≡ disks C * L
-    → encoded C L stripe ≡ filled (C .k) L (λ d. column C (d - C .k)) (parities C) stripe
+use Rattle.flat.specs.Repairs.{filled, consistent, equationAmong}
 
 -- For every set, fatal or not: some content agrees with the survivors exactly where the check words among them vanish.
 abbrev pub ConsistentAgrees : Type 0

@@ -1,15 +1,15 @@
--- Strips computed from other strips: what encoder and rebuilder do, and how the rebuilder decides. Nobody has to believe these: the
--- theorems of Rebuilt say that they are document 01's encoding and rebuilding, and no public contract names them.
+-- Strips computed from other strips: what the rebuilder does, and how it decides. Nobody has to believe these: the theorems of Rebuilt
+-- say that they are document 01's rebuilding, and no public contract names them.
 -- Assumes nothing.
-use mathlib.Core.Bool.{Bool, true, not, _&&_}
+use mathlib.Core.Bool.{Bool, true, _&&_}
 use mathlib.Core.List.{List, [], _∷_}
 use Prim.Native.Nat.{ℕ, _/_, _%_, _^_}
-use lib.Dec.{eqb, ltb}
+use lib.Dec.{eqb}
 use lib.ListN.{length, getD}
 use Rattle.gf2.specs.If.{if_then_else_}
 use Rattle.gf2.specs.Sets.{has, _⊕_, _∖_, over}
 use Rattle.gf2.specs.Within.{within}
-use Rattle.flat.specs.Lists.{every, setOf, tabulate}
+use Rattle.flat.specs.Lists.{every, tabulate}
 use Rattle.flat.specs.Cards.{Code, disks}
 use Rattle.flat.specs.Strips.{byteOf}
 use Rattle.flat.specs.Erasures.{survivors}
@@ -20,11 +20,6 @@ unfoldable pub filled : ℕ → ℕ → (ℕ → ℕ) → ℕ → List ℕ → L
 unfolding tabulate has over byteOf
 filled n L E S stripe =
     tabulate (length stripe) (λ p. if has S (p / L) then over n (E (p / L)) (byteOf L stripe (p % L)) else getD stripe p 0)
-
--- the parity disks
-unfoldable pub parities : Code → ℕ
-unfolding setOf disks
-parities C = setOf (disks C) (λ d. not (ltb d (C .k)))
 
 -- has the XOR of the strips of the disks of E below n no byte but 0?
 unfoldable pub vanishes : ℕ → ℕ → List ℕ → ℕ → Bool

@@ -47,7 +47,7 @@ pub fn below(set: u32, n: u32) -> bool
 }
 
 // The disks below n.
-pub fn first(n: u32) -> u32
+fn first(n: u32) -> u32
     requires { ⌜ (1 ≤ n) × (n ≤ 32) ⌝ }
     ensures { λ r. ⌜ r ≡ first n ⌝ }
 {
@@ -85,7 +85,7 @@ pub fn lowest(set: u32) -> u32
 }
 
 // Row v, XORed with row b where v holds disk d.
-pub fn cleared(d: u32, b: u32, v: u32) -> u32
+fn cleared(d: u32, b: u32, v: u32) -> u32
     requires { ⌜ d < 32 ⌝ }
     ensures { λ r. ⌜ r ≡ clear d b v ⌝ }
 {

@@ -65,7 +65,7 @@ fn mend(s: &mut [u8], l: usize, n: usize, disk: u32, others: u32)
     requires { ⌜ ((i : ℕ) → T (has others i) → T (has disk i) → ⊥) ⌝ }
     ensures { λ _. ⌜ now (s .exit) ≡ filled n l (λ d. others) disk (now (s .entry)) ⌝ }
 {
-    strips::fill(s, l, n, n, disk, [others; 32]);
+    strips::fill(s, l, n, disk, [others; 32]);
 }
 
 // How many steps were made, and what is left of the lost set.

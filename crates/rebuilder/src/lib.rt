@@ -46,7 +46,7 @@ fn restore(columns: &[u8], k: usize, m: usize, l: usize, lost: u32, stripe: &mut
         return Rebuilt::Inconsistent;
     }
     let equations = repairs::equations(checks, n, left, lost);
-    strips::fill(stripe, l, n, n, lost, equations);
+    strips::fill(stripe, l, n, lost, equations);
     let count = gf2::size(lost);
     Rebuilt::Disks(count)
 }

@@ -1,4 +1,4 @@
 pub mod Loops
-pub mod Written
+pub mod Runs
 pub mod Summed
 pub mod Placed

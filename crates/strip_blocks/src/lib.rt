@@ -3,7 +3,7 @@
 //
 // A stripe is here any slice with the strips of n disks in it, l bytes each.
 ghost use mathlib.Core.Path.{_≡_};
-ghost use Prim.Native.Nat.{_+_, _*_, _<_, _≤_};
+ghost use Prim.Native.Nat.{_+_, _-_, _*_, _<_, _≤_, min};
 ghost use lib.Dec.{eqb};
 ghost use lib.ListN.{length, getD, take};
 ghost use Rattle.gf2.specs.If.{if_then_else_};
@@ -48,10 +48,9 @@ fn added_if(block: [u8; 128], s: &[u8], at: usize, set: u32, i: usize) -> [u8; 1
     }
 }
 
-// Of the XOR of the strips of the disks below n that are in the set: the 128 bytes from o on. They may go
-// over the strips' end, as long as the slice has them.
+// Of the XOR of the strips of the disks below n that are in the set: the 128 bytes from o on.
 pub fn sum(s: &[u8], l: usize, n: usize, set: u32, o: usize) -> [u8; 128]
-    requires { ⌜ (n ≤ 32) × (n * l + o + 128 ≤ length (now s) + l) ⌝ }
+    requires { ⌜ (n ≤ 32) × (o + 128 ≤ l) × (n * l ≤ length (now s)) ⌝ }
     ensures { λ r. ⌜ r ≡ tabulate 128 (λ t. over n set (byteOf l (now (s .entry)) (o + t))) ⌝ }
 {
     let mut block = [0u8; 128];
@@ -80,6 +79,15 @@ pub fn put_first(s: &mut [u8], at: usize, block: [u8; 128], count: usize)
     for t in 0..count {
         s[at + t] = block[t];
     }
+}
+
+// Where the block of w bytes starts that holds byte o of a strip: there, or so far before it that the block
+// ends with the strip.
+pub fn block_start(o: usize, w: usize, l: usize) -> usize
+    requires { ⌜ (o < l) × (w ≤ l) ⌝ }
+    ensures { λ r. ⌜ r ≡ min o (l - w) ⌝ }
+{
+    if l - o < w { l - w } else { o }
 }
 
 // Whether the block has no byte but 0.

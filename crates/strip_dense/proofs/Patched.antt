@@ -6,7 +6,7 @@ use mathlib.Core.Bool.{Bool, _&&_}
 use mathlib.Core.Logic.{_⊎_, inl, inr}
 use mathlib.Core.List.{List}
 use Prim.Native.Nat.{ℕ, _+_, _-_, _*_, _/_, _%_, _≤_, _<_}
-use native.Mathlib.Nat.{add-assoc, div-add-mod', lt-of-lt-of-le, zero-add}
+use native.Mathlib.Nat.{add-assoc, div-add-mod', zero-add}
 use native.Mathlib.Omega.{arith}
 use lib.Arith.{digits-lt, digits-div, digits-mod}
 use lib.Dec.{T, leb, ltb}
@@ -189,13 +189,13 @@ module _ (n l : ℕ) (E : ℕ → ℕ) (S : ℕ) where
       split p x (inl m) = inr (λ y. let z : p / l ≡ d = y .0 in omega arith, (x .0, m, x .2, x .3))
       split p x (inr q) = inl (q, x .2, x .3)
 
-  pub block-all : (s₀ local : List ℕ) (o d disks : ℕ) (s : List ℕ) → Blocks s₀ local o d s → d ≡ disks → disks * l ≡ length s₀
+  pub block-all : (s₀ local : List ℕ) (o d : ℕ) (s : List ℕ) → Blocks s₀ local o d s → d ≡ n → n * l ≡ length s₀
       → s ≡ tabulate (length s₀) (λ p. if inBlock o p then blockByte local o p else getD s₀ p 0)
-  block-all s₀ local o d disks s r e m =
+  block-all s₀ local o d s r e m =
       patched-all s₀ (blockByte local o) (BlockTo o d) (inBlock o) s r
       (λ p h t. let a = and-out (has S (p / l)) (leb o (p % l) && ltb (p % l) (o + 128)) t in
       let b = and-out (leb o (p % l)) (ltb (p % l) (o + 128)) (a .1) in
-      (a .0, subst (λ (x : ℕ). p / l < x) (sym e) (places disks l p (omega arith) .0), leb-out o (p % l) (b .0), ltb-out (p % l) (o + 128) (b .1)))
+      (a .0, subst (λ (x : ℕ). p / l < x) (sym e) (places n l p (omega arith) .0), leb-out o (p % l) (b .0), ltb-out (p % l) (o + 128) (b .1)))
       (λ p x. and-in (has S (p / l)) (leb o (p % l) && ltb (p % l) (o + 128)) (x .0)
       (and-in (leb o (p % l)) (ltb (p % l) (o + 128)) (leb-in (x .2)) (ltb-in (x .3))))
 
@@ -223,7 +223,7 @@ module _ (n l : ℕ) (E : ℕ → ℕ) (S : ℕ) where
 
   -- a block at q, which leaves no gap; what was gathered is no target's, so it is as at entry
   pub strips-more : (s₀ : List ℕ) (o q : ℕ) (s local s′ : List ℕ) → ((d i : ℕ) → T (has S d) → i < n → T (has (E d) i) → T (has S i) → ⊥)
-      → Strips s₀ o s → q ≤ o → o ≤ q + 128 → q + 128 ≤ l → n * l ≤ length s₀
+      → Strips s₀ o s → q ≤ o → o ≤ q + 128 → q + 128 ≤ l → n * l ≡ length s₀
       → ((t i : ℕ) → t < 128 → i < n → byteOf 128 local t i ≡ byteOf l s (q + t) i)
       → s′ ≡ tabulate (length s) (λ p. if inBlock q p then blockByte local q p else getD s p 0)
       → Strips s₀ (q + 128) s′
@@ -250,7 +250,7 @@ module _ (n l : ℕ) (E : ℕ → ℕ) (S : ℕ) where
       at p u = ap (λ (x : List ℕ). getD x p 0) e ∙ getD-tabulate (length s) all p (omega (arith, r .long))
 
       same : (i d t : ℕ) → T (has S d) → i < n → T (has (E d) i) → t < l → byteOf l s t i ≡ byteOf l s₀ t i
-      same i d t w b g v = strip-kept s₀ o s r i t v (lt-of-lt-of-le (digits-lt b v) fits) (apart d i w b g)
+      same i d t w b g v = strip-kept s₀ o s r i t v (subst (λ (x : ℕ). i * l + t < x) fits (digits-lt b v)) (apart d i w b g)
 
       read : (p : ℕ) → T (has S (p / l)) → q ≤ p % l → p % l < q + 128 → blockByte local q p ≡ stripByte s₀ p
       read p w a c =
@@ -262,8 +262,8 @@ module _ (n l : ℕ) (E : ℕ → ℕ) (S : ℕ) where
       split p x (inl a) = inr (λ y. let z : q ≤ p % l = y .1 in omega arith, (x .0, omega arith))
       split p x (inr a) = inl (x .0, a, x .1)
 
-  pub strips-all : (s₀ : List ℕ) (o disks : ℕ) (s : List ℕ) → Strips s₀ o s → o ≡ l → disks * l ≡ length s₀ → s ≡ filled n l E S s₀
+  pub strips-all : (s₀ : List ℕ) (o : ℕ) (s : List ℕ) → Strips s₀ o s → o ≡ l → n * l ≡ length s₀ → s ≡ filled n l E S s₀
   unfolding filled
-  strips-all s₀ o disks s r e m =
+  strips-all s₀ o s r e m =
       patched-all s₀ (stripByte s₀) (StripsTo o) (λ p. has S (p / l)) s r
-      (λ p h t. (t, subst (λ (x : ℕ). p % l < x) (sym e) (places disks l p (omega arith) .1))) (λ p x. x .0)
+      (λ p h t. (t, subst (λ (x : ℕ). p % l < x) (sym e) (places n l p (omega arith) .1))) (λ p x. x .0)

@@ -26,7 +26,7 @@ fn copy(local: &mut [u8; 4096], to: usize, s: &[u8], at: usize)
 }
 
 // The 128 bytes from o on of the strips of the disks below n, one after the other.
-fn gather(local: &mut [u8; 4096], s: &[u8], l: usize, n: usize, o: usize)
+pub fn gather(local: &mut [u8; 4096], s: &[u8], l: usize, n: usize, o: usize)
     requires { ⌜ (length (now local) ≡ 4096) × (n ≤ 32) × (o + 128 ≤ l) × (n * l ≤ length (now s)) ⌝ }
     ensures { λ _. ⌜ length (now (local .exit)) ≡ 4096 ⌝ }
     ensures { λ _. ⌜ ((t i : ℕ) → t < 128 → i < n → byteOf 128 (now (local .exit)) t i ≡ byteOf l (now (s .entry)) (o + t) i) ⌝ }
@@ -36,22 +36,20 @@ fn gather(local: &mut [u8; 4096], s: &[u8], l: usize, n: usize, o: usize)
     }
 }
 
-// The 128 bytes from o on of the strip of each target d become the XOR of the blocks of the disks below
-// n that are in set d.
+// The 128 bytes from o on of the strip of each target d become the XOR of the blocks of the disks in set d.
 fn fill_block(
     s: &mut [u8],
     local: &[u8],
     l: usize,
     n: usize,
-    disks: usize,
     targets: u32,
     sets: [u32; 32],
     o: usize,
 )
-    requires { ⌜ (n ≤ 32) × (n * 128 ≤ length (now local)) × (disks ≤ 32) × (o + 128 ≤ l) × (disks * l ≡ length (now s)) ⌝ }
+    requires { ⌜ (n ≤ 32) × (n * 128 ≤ length (now local)) × (o + 128 ≤ l) × (n * l ≡ length (now s)) ⌝ }
     ensures { λ _. ⌜ now (s .exit) ≡ tabulate (length (now (s .entry))) (λ p. if has targets (p / l) && (leb o (p % l) && ltb (p % l) (o + 128)) then over n (getD sets (p / l) 0) (byteOf 128 (now (local .entry)) (p % l - o)) else getD (now (s .entry)) p 0) ⌝ }
 {
-    for d in 0..disks {
+    for d in 0..n {
         if gf2::has(targets, d as u32) {
             let block = strip_blocks::sum(local, 128, n, sets[d], 0);
             strip_blocks::put(s, d * l + o, block);
@@ -59,39 +57,30 @@ fn fill_block(
     }
 }
 
-// Where the block starts that holds byte o of a strip: there, or so far before it that the block ends with
-// the strip.
-fn block_start(o: usize, l: usize) -> usize
-    requires { ⌜ (o < l) × (128 ≤ l) ⌝ }
-    ensures { λ r. ⌜ (r ≤ o) × (o < r + 128) × (r + 128 ≤ l) ⌝ }
-{
-    if l - o < 128 { l - 128 } else { o }
-}
-
 // The strips of the targets, of 128 bytes or more.
-pub fn fill(s: &mut [u8], l: usize, n: usize, disks: usize, targets: u32, sets: [u32; 32])
-    requires { ⌜ (128 ≤ l) × (n ≤ disks) × (disks ≤ 32) × (disks * l ≡ length (now s)) ⌝ }
+pub fn fill(s: &mut [u8], l: usize, n: usize, targets: u32, sets: [u32; 32])
+    requires { ⌜ (128 ≤ l) × (n ≤ 32) × (n * l ≡ length (now s)) ⌝ }
     requires { ⌜ ((d i : ℕ) → T (has targets d) → i < n → T (has (getD sets d 0) i) → T (has targets i) → ⊥) ⌝ }
     ensures { λ _. ⌜ now (s .exit) ≡ filled n l (λ d. getD sets d 0) targets (now (s .entry)) ⌝ }
 {
     let mut local = [0u8; 4096];
     let mut o = 0;
     while o < l {
-        let start = block_start(o, l);
+        let start = strip_blocks::block_start(o, 128, l);
         gather(&mut local, s, l, n, start);
-        fill_block(s, &local, l, n, disks, targets, sets, start);
+        fill_block(s, &local, l, n, targets, sets, start);
         o = start + 128;
     }
 }
 
 // Whether the sets of the targets name each of the n strips three times or more on average. It chooses
 // the way to fill, and no more.
-pub fn is_dense(n: usize, disks: usize, targets: u32, sets: [u32; 32]) -> bool
-    requires { ⌜ (n ≤ 32) × (disks ≤ 32) ⌝ }
-    ensures { λ r. ⌜ r ≡ leb (3 * n) (named targets sets disks) ⌝ }
+pub fn is_dense(n: usize, targets: u32, sets: [u32; 32]) -> bool
+    requires { ⌜ n ≤ 32 ⌝ }
+    ensures { λ r. ⌜ r ≡ leb (3 * n) (named targets sets n) ⌝ }
 {
     let mut named = 0usize;
-    for d in 0..disks {
+    for d in 0..n {
         if gf2::has(targets, d as u32) {
             let size = gf2::size(sets[d]);
             named += size as usize;

@@ -1,3 +1,3 @@
-pub mod Written
+pub mod OneStrip
 pub mod Filling
 pub mod Streamed

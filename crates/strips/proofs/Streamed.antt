@@ -1,23 +1,21 @@
 -- The strips of a set as streams: the places that `strip_blocks::members_of` answers, and what is written from them.
 -- Assumes nothing.
 use mathlib.Core.Path.{_≡_, _∙_}
-use mathlib.Core.Logic.{_⊎_, inl, inr, _≢_}
+use mathlib.Core.Logic.{_≢_}
 use mathlib.Core.List.{List}
 use Prim.Native.Nat.{ℕ, _+_, _*_, _^_, _≤_, _<_}
 use native.Mathlib.Omega.{arith}
 use lib.Dec.{T}
 use lib.ListN.{length, getD}
 use Rattle.gf2.specs.Sets.{has, over}
-use Rattle.gf2.proofs.Tests.{below-or}
 use Rattle.flat.specs.Lists.{tabulate, put}
 use Rattle.flat.specs.Strips.{byteOf}
 use Rattle.flat.specs.Repairs.{filled}
 use Rattle.flat.proofs.Lists.{length-tabulate, getD-tabulate}
 use Rattle.strip_blocks.specs.Totals.{total, xorAt}
-use Rattle.strip_blocks.proofs.Summed.{strip-within}
 use Rattle.strip_blocks.proofs.Placed.{place-inside}
 use Rattle.strip_streams.specs.Streams.{Inside, Apart}
-use Rattle.strips.proofs.Filling.{strip-put}
+use Rattle.strips.proofs.OneStrip.{strips-apart, strip-put}
 
 module _ (n l set : ℕ) (s at : List ℕ) (count : ℕ) where
   -- the places are in the slice, and apart from the strip of a disk that is not in the set
@@ -26,12 +24,7 @@ module _ (n l set : ℕ) (s at : List ℕ) (count : ℕ) where
     places-inside fits j h = let p = strips j h in omega (arith, place-inside n l (p .0) (getD at j 0) (p .1) (p .3))
 
     pub places-apart : (d : ℕ) → ((i : ℕ) → i < n → T (has set i) → i ≢ d) → Apart (d * l) l at count
-    places-apart d other j h = let p = strips j h in let i = p .0 in go i (p .3) (other i (p .1) (p .2)) (below-or i d) (below-or d i)
-      where
-        go : (i : ℕ) → getD at j 0 ≡ i * l → i ≢ d → (i < d) ⊎ (d ≤ i) → (d < i) ⊎ (i ≤ d) → (getD at j 0 + l ≤ d * l) ⊎ (d * l + l ≤ getD at j 0)
-        go i e f (inl a) b = inl (omega (arith, strip-within i d l a))
-        go i e f (inr a) (inl b) = inr (omega (arith, strip-within d i l b))
-        go i e f (inr a) (inr b) = absurd (f (let q : i ≡ d = omega arith in q))
+    places-apart d other j h = let p = strips j h in rw (p .3) (strips-apart (p .0) d l (other (p .0) (p .1) (p .2)))
 
   pub streamed-filled : ((f : ℕ → ℕ) → total count (λ j. f (getD at j 0)) ≡ over n set (λ i. f (i * l))) → (d : ℕ) (s′ : List ℕ) → 0 < l
       → d * l + l ≤ length s → s′ ≡ put s (d * l) (tabulate l (xorAt count at s)) → s′ ≡ filled n l (λ i. set) (2 ^ d) s

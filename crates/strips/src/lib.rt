@@ -1,13 +1,12 @@
 // Strips computed from other strips: those of some disks filled with the XOR of the strips of a set each.
 //
-// A stripe has the strips of all disks, l bytes each. Strips go in blocks of 128 bytes, shorter ones in
+// A stripe has the strips of all n disks, l bytes each. Strips go in blocks of 128 bytes, shorter ones in
 // blocks of 16, and those below 16 byte by byte; the last block lies over the end of the one before it. It
 // assumes at most 32 disks, and that no strip that is read is a target's.
 ghost use mathlib.Core.Path.{_≡_};
-ghost use mathlib.Core.Bool.{_&&_};
 ghost use mathlib.Core.Logic.{_≢_};
 ghost use Prim.Native.Nat.{ℕ, _+_, _*_, _^_, _<_, _≤_};
-ghost use lib.Dec.{T, leb, ltb};
+ghost use lib.Dec.{T};
 ghost use lib.ListN.{length, getD};
 ghost use Rattle.gf2.specs.Sets.{has};
 ghost use Rattle.flat.specs.Repairs.{filled};
@@ -72,15 +71,6 @@ fn fill_short(s: &mut [u8], l: usize, n: usize, set: u32, d: usize)
     }
 }
 
-// The same for strips shorter than 128 bytes, in one block over their end. The slice has to have its bytes.
-fn fill_over(s: &mut [u8], l: usize, n: usize, set: u32, d: usize)
-    requires { ⌜ (1 ≤ l) × (l ≤ 128) × (n ≤ 32) × (n * l + 128 ≤ length (now s) + l) × (d * l + l ≤ length (now s)) ⌝ }
-    ensures { λ _. ⌜ now (s .exit) ≡ filled n l (λ _. set) (2 ^ d) (now (s .entry)) ⌝ }
-{
-    let block = strip_blocks::sum(s, l, n, set, 0);
-    strip_blocks::put_first(s, d * l, block, l);
-}
-
 // The same for strips of any length, byte by byte.
 fn fill_bytes(s: &mut [u8], l: usize, n: usize, set: u32, d: usize)
     requires { ⌜ (1 ≤ l) × (n ≤ 32) × (n * l ≤ length (now s)) × (d * l + l ≤ length (now s)) ⌝ }
@@ -93,17 +83,6 @@ fn fill_bytes(s: &mut [u8], l: usize, n: usize, set: u32, d: usize)
     }
 }
 
-// Whether a block over the strips' end is there, and does less work than blocks of 16 bytes.
-fn over_ok(size: usize, l: usize, n: usize) -> bool
-    requires { ⌜ (l ≤ 128) × (n ≤ 32) × (size + l < 2 ^ 64) ⌝ }
-    ensures { λ r. ⌜ r ≡ (ltb 32 l && leb (n * l + 128) (size + l)) ⌝ }
-{
-    if l <= 32 {
-        return false;
-    }
-    n * l + 128 <= size + l
-}
-
 // The same in the way that suits the strips' length.
 fn fill_strip(s: &mut [u8], l: usize, n: usize, set: u32, d: usize)
     requires { ⌜ (1 ≤ l) × (n ≤ 32) × (n * l ≤ length (now s)) × (d * l + l ≤ length (now s)) ⌝ }
@@ -114,8 +93,6 @@ fn fill_strip(s: &mut [u8], l: usize, n: usize, set: u32, d: usize)
         fill_few(s, l, n, set, d);
     } else if 128 <= l {
         fill_long(s, l, n, set, d);
-    } else if over_ok(s.len(), l, n) {
-        fill_over(s, l, n, set, d);
     } else if 16 <= l {
         fill_short(s, l, n, set, d);
     } else {
@@ -124,30 +101,32 @@ fn fill_strip(s: &mut [u8], l: usize, n: usize, set: u32, d: usize)
 }
 
 // The strips of the targets, one after the other.
-fn fill_each(s: &mut [u8], l: usize, n: usize, disks: usize, targets: u32, sets: [u32; 32])
-    requires { ⌜ (1 ≤ l) × (n ≤ disks) × (disks ≤ 32) × (disks * l ≡ length (now s)) ⌝ }
+fn fill_each(s: &mut [u8], l: usize, n: usize, targets: u32, sets: [u32; 32])
+    requires { ⌜ (1 ≤ l) × (n ≤ 32) × (n * l ≡ length (now s)) ⌝ }
     requires { ⌜ ((d i : ℕ) → T (has targets d) → i < n → T (has (getD sets d 0) i) → T (has targets i) → ⊥) ⌝ }
     ensures { λ _. ⌜ now (s .exit) ≡ filled n l (λ d. getD sets d 0) targets (now (s .entry)) ⌝ }
 {
-    for d in 0..disks {
+    let mut d = 0;
+    while d < n {
         if gf2::has(targets, d as u32) {
             fill_strip(s, l, n, sets[d], d);
         }
+        d += 1;
     }
 }
 
-// The strip of each target d becomes the XOR of the strips of the disks below n that are in set d; none
-// of those is a target. Long strips that are read often go block by block.
-pub fn fill(s: &mut [u8], l: usize, n: usize, disks: usize, targets: u32, sets: [u32; 32])
-    requires { ⌜ (1 ≤ l) × (n ≤ disks) × (disks ≤ 32) × (disks * l ≡ length (now s)) ⌝ }
+// The strip of each target d becomes the XOR of the strips of the disks in set d; none of those is a
+// target. Long strips that are read often go block by block.
+pub fn fill(s: &mut [u8], l: usize, n: usize, targets: u32, sets: [u32; 32])
+    requires { ⌜ (1 ≤ l) × (n ≤ 32) × (n * l ≡ length (now s)) ⌝ }
     requires { ⌜ ((d i : ℕ) → T (has targets d) → i < n → T (has (getD sets d 0) i) → T (has targets i) → ⊥) ⌝ }
     ensures { λ _. ⌜ now (s .exit) ≡ filled n l (λ d. getD sets d 0) targets (now (s .entry)) ⌝ }
 {
     if l < 8192 {
-        fill_each(s, l, n, disks, targets, sets);
-    } else if strip_dense::is_dense(n, disks, targets, sets) {
-        strip_dense::fill(s, l, n, disks, targets, sets);
+        fill_each(s, l, n, targets, sets);
+    } else if strip_dense::is_dense(n, targets, sets) {
+        strip_dense::fill(s, l, n, targets, sets);
     } else {
-        fill_each(s, l, n, disks, targets, sets);
+        fill_each(s, l, n, targets, sets);
     }
 }

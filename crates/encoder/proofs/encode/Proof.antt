@@ -65,7 +65,7 @@ columns-requires c κs = known (c .before .before .before) .long
 encode-columns-requires : tie.Need-encode-columns-requires
 encode-columns-requires c κs =
     let e = c .before .before in
-    (rw (c .before .columns .ensures) (known (e .before .before .before) .columns), length-in _ (fits (e .before)) .0, sym (e .if2 .left))
+    (rw (c .before .columns .ensures) (known (e .before .before .before) .columns), length-in _ (fits (e .before)) .0, length-in _ (fits (e .before)) .1, sym (e .if2 .left))
 
 returns-3 : tie.Need-returns-3
 returns-3 c =

@@ -106,7 +106,7 @@ fill-requires c κs =
     let p = s .before .before in
     let a = start p .args in
     let q = start p .pre .1 in (
-      (q .0, search needs, few p, sym (q .3)),
+      (q .0, few p, sym (q .3)),
       λ d i t l. no-target _ _ _ (a .l) _ (now (a .stripe)) (safe p) _ (checked (s .before)) (few p) (q .2) _
           (rw (s .survivors .ensures) at (e .equations .ensures)) d i t,
     )

@@ -2,7 +2,6 @@
 -- Assumes nothing.
 use mathlib.Core.Path.{_≡_}
 use Prim.Native.Nat.{ℕ, _-_, _≤_}
-use native.Mathlib.Nat.{mul-le-mul-right}
 use native.Mathlib.Omega.{arith}
 use lib.ListN.{length, getD, length-replicate}
 use Rattle.strip_dense.proofs.Patched.{Strips, strips-none, strips-more, strips-all}
@@ -11,10 +10,10 @@ use Rattle.strip_dense.proofs.fill.Statement.{statement}
 use Rattle.strip_dense.proofs.fill.Tie as tie
 
 abbrev Inv-loop : tie.InvT-loop
-Inv-loop s₀ l n disks targets sets local₀ o₀ s local o = (o ≤ l) × (length local ≡ 4096) × Strips n l (λ i. getD sets i 0) targets s₀ o s
+Inv-loop s₀ l n targets sets local₀ o₀ s local o = (o ≤ l) × (length local ≡ 4096) × Strips n l (λ i. getD sets i 0) targets s₀ o s
 
 abbrev μ-loop : tie.MeasureT-loop
-μ-loop s₀ l n disks targets sets local₀ o₀ s local o = l - o
+μ-loop s₀ l n targets sets local₀ o₀ s local o = l - o
 
 loop-holds : tie.Need-loop-holds Inv-loop μ-loop
 loop-holds c =
@@ -26,9 +25,7 @@ block-start-requires c κs = search needs
 
 gather-requires : tie.Need-gather-requires Inv-loop μ-loop
 gather-requires c κs =
-    let lp = c .before .before .before .before .loop in
-    let st = c .before .before .before .before .before .before in
-    (search needs, search needs, search needs, omega (arith, mul-le-mul-right (st .args .l) (st .pre .0 .1), lp .inv .2 .long))
+    let lp = c .before .before .before .before .loop in (search needs, search needs, search needs, omega (arith, lp .inv .2 .long))
 
 slice-aggregate-fill-block : tie.Need-slice-aggregate-fill-block Inv-loop μ-loop
 slice-aggregate-fill-block c = search needs
@@ -47,12 +44,11 @@ loop-again c =
     let g = c .before .before .before .before .before in
     let lp = g .before .before .before .before .before .loop in
     let st = g .before .before .before .before .before .before .before in
-    let a = st .args in
-    let few = mul-le-mul-right (a .l) (st .pre .0 .1) in (
+    let a = st .args in (
       search needs,
       g .gather .ensures .0,
       strips-more (a .n) (a .l) (λ i. getD (a .sets) i 0) (a .targets) (a .s .now) (lp .o) _ (lp .s) _ _ (st .pre .1) (lp .inv .2)
-          (search needs) (search needs) (search needs) (omega (arith, few)) (g .gather .ensures .1) (c .before .before .fill-block .ensures),
+          (search needs) (search needs) (search needs) (search needs) (g .gather .ensures .1) (c .before .before .fill-block .ensures),
     )
 
 same-length : tie.Need-same-length Inv-loop μ-loop
@@ -63,7 +59,7 @@ returns c =
     let lp = c .before .loop in
     let a = c .before .before .before .args in
     let e : lp .o ≡ a .l = search needs in
-    strips-all (a .n) (a .l) (λ i. getD (a .sets) i 0) (a .targets) (a .s .now) (lp .o) (a .disks) (lp .s) (lp .inv .2) e (search needs)
+    strips-all (a .n) (a .l) (λ i. getD (a .sets) i 0) (a .targets) (a .s .now) (lp .o) (lp .s) (lp .inv .2) e (search needs)
 
 pub fill-spec : {M : Type 1} → statement M
 fill-spec =

@@ -13,19 +13,19 @@ use Rattle.strip_dense.proofs.fill_block.Statement.{statement}
 use Rattle.strip_dense.proofs.fill_block.Tie as tie
 
 abbrev Inv-loop : tie.InvT-loop
-Inv-loop s₀ local l n disks targets o sets d₀ s d = (d ≤ disks) × Blocks n l (λ i. getD sets i 0) targets s₀ local o d s
+Inv-loop s₀ local l n targets o sets d₀ s d = (d ≤ n) × Blocks n l (λ i. getD sets i 0) targets s₀ local o d s
 
 abbrev μ-loop : tie.MeasureT-loop
-μ-loop s₀ local l n disks targets o sets d₀ s d = disks - d
+μ-loop s₀ local l n targets o sets d₀ s d = n - d
 
 loop-holds : tie.Need-loop-holds Inv-loop μ-loop
 loop-holds c =
     let a = c .before .before .args in
-    (search needs, block-none (a .n) (a .l) (λ i. getD (a .t7) i 0) (a .targets) (a .s .now) (a .local .now) (a .o))
+    (search needs, block-none (a .n) (a .l) (λ i. getD (a .t6) i 0) (a .targets) (a .s .now) (a .local .now) (a .o))
 
 -- in a turn the strip of disk d is within the strips
-inside : (c : tie.In-loop Inv-loop μ-loop) → c .before .loop .d * c .before .before .before .before .args .l + c .before .before .before .before .args .l ≤ c .before .before .before .before .args .disks * c .before .before .before .before .args .l
-inside c = strip-within (c .before .loop .d) (c .before .before .before .before .args .disks) (c .before .before .before .before .args .l) (omega arith)
+inside : (c : tie.In-loop Inv-loop μ-loop) → c .before .loop .d * c .before .before .before .before .args .l + c .before .before .before .before .args .l ≤ c .before .before .before .before .args .n * c .before .before .before .before .args .l
+inside c = strip-within (c .before .loop .d) (c .before .before .before .before .args .n) (c .before .before .before .before .args .l) (omega arith)
 
 cast-has : tie.Need-cast-has Inv-loop μ-loop
 cast-has c = search needs
@@ -62,7 +62,7 @@ loop-again c =
     let m = c .before in
     let lp = m .before .before .loop in
     let a = m .before .before .before .before .before .args in
-    let E : ℕ → ℕ = λ i. getD (a .t7) i 0 in
+    let E : ℕ → ℕ = λ i. getD (a .t6) i 0 in
     ⊎-elim
     (λ w. (
       omega arith,
@@ -84,8 +84,8 @@ returns : tie.Need-returns Inv-loop μ-loop
 returns c =
     let lp = c .before .loop in
     let a = c .before .before .before .before .args in
-    let e : lp .d ≡ a .disks = search needs in
-    block-all (a .n) (a .l) (λ i. getD (a .t7) i 0) (a .targets) (a .s .now) (a .local .now) (a .o) (lp .d) (a .disks) (lp .s) (lp .inv .1) e (search needs)
+    let e : lp .d ≡ a .n = search needs in
+    block-all (a .n) (a .l) (λ i. getD (a .t6) i 0) (a .targets) (a .s .now) (a .local .now) (a .o) (lp .d) (lp .s) (lp .inv .1) e (search needs)
 
 pub fill-block-spec : {M : Type 1} → statement M
 fill-block-spec =

@@ -12,10 +12,10 @@ use Rattle.strip_dense.proofs.is_dense.Statement.{statement}
 use Rattle.strip_dense.proofs.is_dense.Tie as tie
 
 abbrev Inv-loop : tie.InvT-loop
-Inv-loop n disks targets sets named₀ d₀ count d = (d ≤ disks) × (count ≤ d * 4294967296) × (count ≡ named targets sets d)
+Inv-loop n targets sets named₀ d₀ count d = (d ≤ n) × (count ≤ d * 4294967296) × (count ≡ named targets sets d)
 
 abbrev μ-loop : tie.MeasureT-loop
-μ-loop n disks targets sets named₀ d₀ named d = disks - d
+μ-loop n targets sets named₀ d₀ named d = n - d
 
 loop-holds : tie.Need-loop-holds Inv-loop μ-loop
 unfolding named
@@ -61,7 +61,7 @@ mul-result c = search needs
 
 returns : tie.Need-returns Inv-loop μ-loop
 returns c =
-    let e : c .before .loop .d ≡ c .before .before .args .disks = omega arith in
+    let e : c .before .loop .d ≡ c .before .before .args .n = omega arith in
     ap (leb (3 * c .before .before .args .n)) (c .before .loop .inv .2 ∙ ap (named _ _) e)
 
 pub is-dense-spec : {M : Type 1} → statement M

@@ -1,11 +1,9 @@
 -- `strips::fill_bytes` meets its contract: the strip is written up to t, the other strips are as at entry.
 -- Assumes nothing.
-use mathlib.Core.Path.{_≡_}
 use Prim.Native.Nat.{_-_, _≤_}
 use native.Mathlib.Omega.{arith}
-use Rattle.strip_blocks.proofs.Written.{written-start}
-use Rattle.strips.proofs.Written.{StripTo, strip-byte}
-use Rattle.strips.proofs.Filling.{strip-all}
+use Rattle.strip_blocks.proofs.Runs.{run-none}
+use Rattle.strips.proofs.OneStrip.{StripTo, strip-byte, strip-all}
 use borrow.Author.Needs.{needs}
 use Rattle.strips.proofs.fill_bytes.Statement.{statement}
 use Rattle.strips.proofs.fill_bytes.Tie as tie
@@ -17,7 +15,7 @@ abbrev μ-loop : tie.MeasureT-loop
 μ-loop s₀ l n set d t₀ s t = l - t
 
 loop-holds : tie.Need-loop-holds Inv-loop μ-loop
-loop-holds c = (search needs, written-start _ _ _)
+loop-holds c = (search needs, run-none _ _ _)
 
 sum-1-requires : tie.Need-sum-1-requires Inv-loop μ-loop
 sum-1-requires c κs = search needs
@@ -39,20 +37,14 @@ loop-less c = search needs
 
 loop-again : tie.Need-loop-again Inv-loop μ-loop
 loop-again c =
-    let lp = c .before .before .before .loop in
-    let st = c .before .before .before .before .before in
-    let a = st .args in
-    (search needs, strip-byte (a .n) (a .l) (a .set) (a .d) (a .s .now) (st .pre .1) (lp .s) (lp .t) (c .sum-1 .result) (lp .inv .1) (omega arith) (search needs) (c .sum-1 .ensures))
+    let lp = c .before .before .before in
+    (search needs, strip-byte _ _ _ _ _ (lp .before .before .pre .1) _ _ _ (lp .loop .inv .1) (omega arith) (search needs) (c .sum-1 .ensures))
 
 same-length : tie.Need-same-length Inv-loop μ-loop
 same-length c = search needs
 
 returns : tie.Need-returns Inv-loop μ-loop
-returns c =
-    let lp = c .before .loop in
-    let a = c .before .before .before .args in
-    let e : lp .t ≡ a .l = search needs in
-    strip-all (a .n) (a .l) (a .set) (a .d) (a .s .now) (lp .t) (lp .s) (search needs) (lp .inv .1) e
+returns c = strip-all _ _ _ _ _ _ _ (search needs) (search needs) (c .before .loop .inv .1) (search needs)
 
 pub fill-bytes-spec : {M : Type 1} → statement M
 fill-bytes-spec =

@@ -1,9 +1,8 @@
 -- `strips::fill_each` meets its contract: the strips of the targets below d are filled.
 -- Assumes nothing.
-use mathlib.Core.Path.{_≡_, sym, _∙_, subst}
+use mathlib.Core.Path.{sym, _∙_, subst}
 use mathlib.Core.Logic.{⊎-elim}
 use Prim.Native.Nat.{ℕ, _+_, _-_, _*_, _≤_}
-use native.Mathlib.Nat.{mul-le-mul-right}
 use native.Mathlib.Omega.{arith}
 use lib.Dec.{T}
 use lib.ListN.{getD}
@@ -16,18 +15,17 @@ use Rattle.strips.proofs.fill_each.Statement.{statement}
 use Rattle.strips.proofs.fill_each.Tie as tie
 
 abbrev Inv-loop : tie.InvT-loop
-Inv-loop s₀ l n disks targets sets d₀ s d = (d ≤ disks) × FilledTo n l (λ i. getD sets i 0) targets s₀ d s
+Inv-loop s₀ l n targets sets d₀ s d = FilledTo n l (λ i. getD sets i 0) targets s₀ d s
 
 abbrev μ-loop : tie.MeasureT-loop
-μ-loop s₀ l n disks targets sets d₀ s d = disks - d
+μ-loop s₀ l n targets sets d₀ s d = n - d
 
 loop-holds : tie.Need-loop-holds Inv-loop μ-loop
-loop-holds c =
-    let a = c .before .args in (search needs, filled-none (a .n) (a .l) (λ i. getD (a .t6) i 0) (a .targets) (a .s .now))
+loop-holds c = let a = c .before .args in filled-none (a .n) (a .l) (λ i. getD (a .t5) i 0) (a .targets) (a .s .now)
 
 -- in a turn the strip of disk d is within the strips
-inside : (c : tie.In-loop Inv-loop μ-loop) → c .before .loop .d * c .before .before .before .args .l + c .before .before .before .args .l ≤ c .before .before .before .args .disks * c .before .before .before .args .l
-inside c = strip-within (c .before .loop .d) (c .before .before .before .args .disks) (c .before .before .before .args .l) (omega arith)
+inside : (c : tie.In-loop Inv-loop μ-loop) → c .before .loop .d * c .before .before .before .args .l + c .before .before .before .args .l ≤ c .before .before .before .args .n * c .before .before .before .args .l
+inside c = strip-within (c .before .loop .d) (c .before .before .before .args .n) (c .before .before .before .args .l) (omega arith)
 
 cast-has : tie.Need-cast-has Inv-loop μ-loop
 cast-has c = search needs
@@ -46,10 +44,9 @@ fill-strip-requires c κs =
     let m = c .before .before in
     let lp = m .before .before .loop in
     let st = m .before .before .before .before in
-    let a = st .args in
-    let few = mul-le-mul-right (a .l) (st .pre .0 .1) in (
-      omega (arith, inside (m .before), few, lp .inv .1 .long),
-      λ i h u e. st .pre .1 (lp .d) i (true-T (sym (m .has .ensures) ∙ c .before .if1 .taken)) h u (subst (λ (x : ℕ). T (has (a .targets) x)) (sym e) (true-T (sym (m .has .ensures) ∙ c .before .if1 .taken))),
+    let t = true-T (sym (m .has .ensures) ∙ c .before .if1 .taken) in (
+      omega (arith, inside (m .before), lp .inv .long),
+      λ i h u e. st .pre .1 (lp .d) i t (omega arith) u (subst (λ (x : ℕ). T (has (st .args .targets) x)) (sym e) t),
     )
 
 add-d : tie.Need-add-d Inv-loop μ-loop
@@ -64,19 +61,14 @@ loop-again c =
     let lp = m .before .before .loop in
     let st = m .before .before .before .before in
     let a = st .args in
-    let few = mul-le-mul-right (a .l) (st .pre .0 .1) in
+    let E : ℕ → ℕ = λ i. getD (a .t5) i 0 in
     ⊎-elim
-    (λ w. let t = true-T (sym (m .has .ensures) ∙ w .0 .taken) in (
-      omega arith,
-      subst (FilledTo (a .n) (a .l) (λ i. getD (a .t6) i 0) (a .targets) (a .s .now) (lp .d + 1)) (sym (w .5))
-          (filled-strip (a .n) (a .l) (λ i. getD (a .t6) i 0) (a .targets) (a .s .now) (lp .d) (lp .s) _ (search needs) (lp .inv .1) t
-          (omega (arith, few)) (λ i h u. st .pre .1 (lp .d) i t h u) (w .2 .ensures)),
-    ))
-    (λ w. (
-      omega arith,
-      subst (FilledTo (a .n) (a .l) (λ i. getD (a .t6) i 0) (a .targets) (a .s .now) (lp .d + 1)) (sym (w .1))
-          (filled-skip (a .n) (a .l) (λ i. getD (a .t6) i 0) (a .targets) (a .s .now) (lp .d) (lp .s) (lp .inv .1) (false-T (sym (m .has .ensures) ∙ w .0 .left))),
-    ))
+    (λ w. let t = true-T (sym (m .has .ensures) ∙ w .0 .taken) in
+    subst (FilledTo (a .n) (a .l) E (a .targets) (a .s .now) (lp .d + 1)) (sym (w .5))
+    (filled-strip (a .n) (a .l) E (a .targets) (a .s .now) (lp .d) (lp .s) _ (search needs) (lp .inv) t (search needs)
+    (λ i h u. st .pre .1 (lp .d) i t h u) (w .2 .ensures)))
+    (λ w. subst (FilledTo (a .n) (a .l) E (a .targets) (a .s .now) (lp .d + 1)) (sym (w .1))
+    (filled-skip (a .n) (a .l) E (a .targets) (a .s .now) (lp .d) (lp .s) (lp .inv) (false-T (sym (m .has .ensures) ∙ w .0 .left))))
     (c .if1 .came)
 
 same-length : tie.Need-same-length Inv-loop μ-loop
@@ -86,8 +78,7 @@ returns : tie.Need-returns Inv-loop μ-loop
 returns c =
     let lp = c .before .loop in
     let a = c .before .before .before .args in
-    let e : lp .d ≡ a .disks = search needs in
-    filled-all (a .n) (a .l) (λ i. getD (a .t6) i 0) (a .targets) (a .s .now) (lp .d) (a .disks) (lp .s) (lp .inv .1) e (search needs)
+    filled-all (a .n) (a .l) (λ i. getD (a .t5) i 0) (a .targets) (a .s .now) (lp .d) (lp .s) (lp .inv) (search needs) (search needs)
 
 pub fill-each-spec : {M : Type 1} → statement M
 fill-each-spec =

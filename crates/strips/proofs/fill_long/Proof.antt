@@ -1,16 +1,14 @@
 -- `strips::fill_long` meets its contract: the strip is written up to o, the other strips are as at entry.
 -- Assumes nothing.
-use mathlib.Core.Path.{_≡_, refl}
-use Prim.Native.Nat.{_+_, _-_, _*_, _≤_}
-use Rattle.strip_blocks.proofs.Written.{written-start}
-use Rattle.strips.proofs.Written.{StripTo, strip-more}
-use Rattle.strips.proofs.Filling.{strip-all}
+use Prim.Native.Nat.{_-_, _≤_}
+use Rattle.strip_blocks.proofs.Runs.{run-none}
+use Rattle.strips.proofs.OneStrip.{StripTo, strip-more, strip-all}
 use borrow.Author.Needs.{needs}
 use Rattle.strips.proofs.fill_long.Statement.{statement}
 use Rattle.strips.proofs.fill_long.Tie as tie
 
 abbrev Inv-loop : tie.InvT-loop
-Inv-loop s₀ l n set d at o₀ s o = (o ≤ l) × (at ≡ d * l) × StripTo n l set d s₀ o s
+Inv-loop s₀ l n set d at o₀ s o = (o ≤ l) × StripTo n l set d s₀ o s
 
 abbrev μ-loop : tie.MeasureT-loop
 μ-loop s₀ l n set d at o₀ s o = l - o
@@ -19,7 +17,7 @@ mul-at : tie.Need-mul-at Inv-loop μ-loop
 mul-at c = search needs
 
 loop-holds : tie.Need-loop-holds Inv-loop μ-loop
-loop-holds c = (search needs, refl, written-start _ _ _)
+loop-holds c = (search needs, run-none _ _ _)
 
 add-loop : tie.Need-add-loop Inv-loop μ-loop
 add-loop c = search needs
@@ -42,12 +40,10 @@ loop-less c = search needs
 loop-again : tie.Need-loop-again Inv-loop μ-loop
 loop-again c =
     let b = c .before .before .before .before in
-    let lp = b .before .before .before .loop in
-    let st = b .before .before .before .before .before in
-    let a = st .args in (
+    let lp = b .before .before .before in (
       search needs,
-      lp .inv .1,
-      strip-more (a .n) (a .l) (a .set) (a .d) (a .s .now) (st .pre .1) 128 _ (lp .s) _ _ (lp .o) _ (lp .inv .1) (lp .inv .2) (search needs) (search needs) (search needs) (search needs) (b .sum .ensures) (c .before .before .put .ensures),
+      strip-more _ _ _ _ _ (lp .before .before .pre .1) 128 _ _ _ _ _ (lp .loop .inv .1) (search needs) (search needs) (search needs) (search needs)
+          (b .sum .ensures) (c .before .before .put .ensures),
     )
 
 sub-last : tie.Need-sub-last Inv-loop μ-loop
@@ -68,23 +64,17 @@ same-length c = search needs
 returns : tie.Need-returns Inv-loop μ-loop
 returns c =
     let b = c .before .before .before .before in
-    let lp = b .before .before .before .before .loop in
-    let st = b .before .before .before .before .before .before in
-    let a = st .args in
-    let e : a .l - 128 + 128 ≡ a .l = search needs in
-    strip-all (a .n) (a .l) (a .set) (a .d) (a .s .now) (a .l - 128 + 128) _ (search needs)
-    (strip-more (a .n) (a .l) (a .set) (a .d) (a .s .now) (st .pre .1) 128 _ (lp .s) _ _ (lp .o) _ (lp .inv .1) (lp .inv .2) (search needs) (search needs) (search needs) (search needs) (b .sum2 .ensures) (c .before .before .put2 .ensures))
-    e
+    let lp = b .before .before .before .before in
+    strip-all _ _ _ _ _ _ _ (search needs) (search needs)
+    (strip-more _ _ _ _ _ (lp .before .before .pre .1) 128 _ _ _ _ _ (lp .loop .inv .1) (search needs) (search needs) (search needs) (search needs)
+    (b .sum2 .ensures) (c .before .before .put2 .ensures))
+    (search needs)
 
 same-length-2 : tie.Need-same-length-2 Inv-loop μ-loop
 same-length-2 c = search needs
 
 returns-2 : tie.Need-returns-2 Inv-loop μ-loop
-returns-2 c =
-    let lp = c .before .before .loop in
-    let a = c .before .before .before .before .args in
-    let e : lp .o ≡ a .l = search needs in
-    strip-all (a .n) (a .l) (a .set) (a .d) (a .s .now) (lp .o) (lp .s) (search needs) (lp .inv .2) e
+returns-2 c = strip-all _ _ _ _ _ _ _ (search needs) (search needs) (c .before .before .loop .inv .1) (search needs)
 
 pub fill-long-spec : {M : Type 1} → statement M
 fill-long-spec =

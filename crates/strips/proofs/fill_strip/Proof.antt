@@ -1,11 +1,5 @@
 -- `strips::fill_strip` meets its contract, whichever way is taken.
 -- Assumes nothing.
-use mathlib.Core.Path.{sym, _∙_}
-use Prim.Native.Nat.{_+_, _*_}
-use native.Mathlib.Omega.{arith}
-use lib.Dec.{leb, ltb}
-use lib.ListN.{length}
-use Rattle.gf2.proofs.Tests.{true-T, and-out, leb-out}
 use borrow.Author.Needs.{needs}
 use Rattle.strips.proofs.fill_strip.Statement.{statement}
 use Rattle.strips.proofs.fill_strip.Tie as tie
@@ -15,17 +9,6 @@ fill-few-requires c κs = search needs
 
 fill-long-requires : tie.Need-fill-long-requires
 fill-long-requires c κs = search needs
-
-over-ok-requires : tie.Need-over-ok-requires
-over-ok-requires c κs = search needs
-
-fill-over-requires : tie.Need-fill-over-requires
-fill-over-requires c κs =
-    let o = c .before .before in
-    let st = o .before .before .before .before in
-    let a = st .args in
-    let t = and-out (ltb 32 (a .l)) (leb (a .n * a .l + 128) (length (a .s .now) + a .l)) (true-T (sym (o .over-ok .ensures) ∙ c .before .if3 .taken)) in
-    omega (arith, leb-out (a .n * a .l + 128) (length (a .s .now) + a .l) (t .1))
 
 fill-short-requires : tie.Need-fill-short-requires
 fill-short-requires c κs = search needs
@@ -57,20 +40,12 @@ same-length-4 c = search needs
 returns-4 : tie.Need-returns-4
 returns-4 c = search needs
 
-same-length-5 : tie.Need-same-length-5
-same-length-5 c = search needs
-
-returns-5 : tie.Need-returns-5
-returns-5 c = search needs
-
 pub fill-strip-spec : {M : Type 1} → statement M
 fill-strip-spec =
     tie.close
     (tie.spec
     fill-few-requires
     fill-long-requires
-    over-ok-requires
-    fill-over-requires
     fill-short-requires
     fill-bytes-requires
     same-length
@@ -80,6 +55,4 @@ fill-strip-spec =
     same-length-3
     returns-3
     same-length-4
-    returns-4
-    same-length-5
-    returns-5)
+    returns-4)

@@ -1,0 +1,4 @@
+pub mod Products
+pub mod Joined
+pub mod Made
+pub mod Theorems
