@@ -64,7 +64,8 @@ uint64_t bridgecrumb_card_write(size_t k, size_t m, const uint16_t *columns, siz
 uint64_t bridgecrumb_alike(const uint8_t *first, size_t first_len, const uint8_t *second, size_t second_len);
 
 /* Takes a card and a stripe.
- * Writes each parity strip: byte by byte the XOR of the strips of its data disks; no value.
+ * Writes each parity strip: byte by byte the XOR of the strips of its data disks; no value. Once the card is checked, what is read and
+ * written, and how often, follows from k, m and strip_len, and not from the columns.
  * Refuses 1 to 5, then 6, then 7 (a stripe of another length than strip_len for each disk). */
 uint64_t bridgecrumb_encode(const uint8_t *card, size_t card_len, size_t strip_len, uint8_t *stripe, size_t stripe_len);
 

@@ -3,7 +3,8 @@
 use crate::{ffi, Error};
 
 /// Takes a card, the strips' length and a stripe; writes the m parity strips, each byte the XOR of the same
-/// byte of its data disks. The data strips keep their bytes.
+/// byte of its data disks. The data strips keep their bytes. Once the card is checked, what is read and
+/// written, and how often, follows from k, m and `strip_len`, and not from the columns.
 ///
 /// Refuses 1 to 5, then 6, then 7 where the stripe's length is not `n * strip_len`. A refused call writes
 /// nothing.
