@@ -48,7 +48,8 @@ fn put_16(s: &mut [u8], at: usize, sums: &[u8; 128], from: usize)
     }
 }
 
-// The strip of parity disk k + j, of 16 to 128 bytes.
+// The strip of parity disk k + j, of 16 to 128 bytes. Each block has sums at a place of its own: the
+// compiler would take 16 sums at a fixed place apart.
 pub fn fill_short(s: &mut [u8], l: usize, k: usize, bits: &[u8; 256], j: usize)
     requires { ⌜ (16 ≤ l) × (l ≤ 128) × (k ≤ 16) × ((k + j) * l + l ≤ length (now s)) × (length (now bits) ≡ 256) × Bits (now bits) × (j < 16) ⌝ }
     ensures { λ _. ⌜ now (s .exit) ≡ put (now (s .entry)) ((k + j) * l) (parityStrip k l (now (bits .entry)) (now (s .entry)) j) ⌝ }
