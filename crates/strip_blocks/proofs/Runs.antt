@@ -6,6 +6,7 @@ use mathlib.Core.Logic.{_⊎_, inl, inr}
 use mathlib.Core.List.{List, [], _∷_}
 use Prim.Native.Nat.{ℕ, _+_, _-_, _≤_, _<_}
 use native.Mathlib.Numerals.{add-one}
+use native.Mathlib.Nat.{zero-add}
 use native.Mathlib.Omega.{arith}
 use lib.ListN.{length, getD, set}
 use lib.Seq.{ext-getD, set-split, append-snoc}
@@ -73,6 +74,12 @@ module _ (s₀ : List ℕ) (a : ℕ) (g : ℕ → ℕ) where
           ap (λ (q : ℕ). getD s q 0) (sym x) ∙ r .new (p - a) (omega arith)
           ∙ sym (ap (λ (q : ℕ). getD (put s₀ a (tabulate n g)) q 0) (sym x) ∙ put-new s₀ a (tabulate n g) n fits (length-tabulate n g) (p - a) (omega arith)
           ∙ getD-tabulate n g (p - a) (omega arith))
+
+-- a run from the beginning to the end
+pub run-whole : (s₀ : List ℕ) (g : ℕ → ℕ) (n o : ℕ) (s : List ℕ) → Run s₀ 0 g o s → o ≡ n → length s₀ ≡ n → s ≡ tabulate n g
+run-whole s₀ g n o s r e long =
+    ext-getD 0 s (tabulate n g) (r .long ∙ long ∙ sym (length-tabulate n g))
+    (λ t h. let m : t < n = omega (arith, r .long) in ap (λ (p : ℕ). getD s p 0) (sym (zero-add t)) ∙ r .new t (omega arith) ∙ sym (getD-tabulate n g t m))
 
 -- the whole run once more, of other entries
 pub run-again : (s₀ : List ℕ) (a : ℕ) (g g′ : ℕ → ℕ) (n : ℕ) (s s′ block : List ℕ) → Run s₀ a g n s → a + n ≤ length s₀ → length block ≡ n

@@ -1,13 +1,13 @@
 -- The lanes of one parity disk, 16 for each data disk, and what the sums by them are.
 -- Assumes nothing.
-use mathlib.Core.Path.{_≡_, refl, sym, ap, ap₂, _∙_, subst}
+use mathlib.Core.Path.{_≡_, refl, ap, ap₂, _∙_, subst}
 use mathlib.Core.Logic.{_⊎_, inl, inr}
 use mathlib.Core.List.{List}
 use Prim.Native.Nat.{ℕ, _+_, _-_, _*_, _/_, _%_, _≤_, _<_}
 use native.Mathlib.Nat.{zero-add, mul-le-mul-right, add-assoc, mod-lt, zero-lt-suc}
 use native.Mathlib.Omega.{arith}
 use lib.ListN.{length, getD, take, drop, replicate, length-replicate, length-drop}
-use lib.Seq.{ext-getD, getD-take, getD-drop, length-take-le}
+use lib.Seq.{getD-take, getD-drop, length-take-le}
 use Rattle.gf2.specs.Sets.{_⊕_}
 use Rattle.gf2.proofs.Tests.{below-or}
 use Rattle.flat.specs.Lists.{tabulate, put}
@@ -16,6 +16,7 @@ use Rattle.flat.proofs.Lists.{length-tabulate, getD-tabulate, tabulate-cong, ta
 use Rattle.strip_blocks.proofs.Runs.{Run, run-none, run-more, run-all}
 use Rattle.strip_products.specs.Products.{Bits, products, parityByte, parityStrip}
 use Rattle.strip_products.proofs.Products.{zero-bits, products-cong, products-more}
+use Rattle.strip_products.proofs.Joined.{joined, joined-block}
 use Rattle.strip_products.proofs.Made.{parity-same}
 
 -- the lane of place p, counted from the first lane of the parity disk
@@ -76,28 +77,13 @@ module _ (block₀ s : List ℕ) (at : ℕ) (lanes : List ℕ) (a : ℕ) where
   addedByte t = getD block₀ t 0 ⊕ getD s (at + t) 0 * getD lanes (a + t % 16) 0
 
   pub piece-more : (block block′ : List ℕ) (q : ℕ) → Run block₀ 0 addedByte (q * 16) block → q * 16 + 16 ≤ length block₀
-      → block′ ≡ put block (q * 16) (tabulate 16 (λ t. getD block (q * 16 + t) 0 ⊕ getD s (at + q * 16 + t) 0 * getD lanes (a + t) 0))
+      → block′ ≡ put block (q * 16) (tabulate 16 (joined block (q * 16) (λ t. getD s (at + q * 16 + t) 0 * getD lanes (a + t) 0)))
       → Run block₀ 0 addedByte ((q + 1) * 16) block′
   piece-more block block′ q r fits e =
       let x : (q + 1) * 16 ≡ q * 16 + 16 = omega arith in
       rw x
-      (run-more block₀ 0 addedByte block block′ (tabulate 16 each) (q * 16) (q * 16) 16 r (omega arith) (omega arith) (omega arith) (length-tabulate 16 each)
-      (λ t h. getD-tabulate 16 each t h ∙ right t h)
-      (e ∙ ap (λ (p : ℕ). put block p (tabulate 16 each)) (sym (zero-add (q * 16)))))
-    where
-      each : ℕ → ℕ
-      each t = getD block (q * 16 + t) 0 ⊕ getD s (at + q * 16 + t) 0 * getD lanes (a + t) 0
-
-      right : (t : ℕ) → t < 16 → each t ≡ addedByte (q * 16 + t)
-      right t h =
-          let y : t ≡ (q * 16 + t) % 16 = omega arith in
-          ap₂ (λ (x y : ℕ). x ⊕ getD s y 0 * getD lanes (a + t) 0) (r .after (q * 16 + t) (omega arith)) (add-assoc at (q * 16) t)
-          ∙ ap (λ (z : ℕ). getD block₀ (q * 16 + t) 0 ⊕ getD s (at + (q * 16 + t)) 0 * getD lanes (a + z) 0) y
-
-  pub pieces-all : (block : List ℕ) (q : ℕ) → Run block₀ 0 addedByte (q * 16) block → q ≡ 8 → length block₀ ≡ 128 → block ≡ tabulate 128 addedByte
-  pieces-all block q r e n =
-      ext-getD 0 block (tabulate 128 addedByte) (r .long ∙ n ∙ sym (length-tabulate 128 addedByte))
-      (λ t h. ap (λ (p : ℕ). getD block p 0) (sym (zero-add t)) ∙ r .new t (omega (arith, r .long)) ∙ sym (getD-tabulate 128 addedByte t (omega (arith, r .long))))
+      (joined-block block₀ (λ t. getD s (at + t) 0 * getD lanes (a + t % 16) 0) block block′ (q * 16) 16 (λ t. getD s (at + q * 16 + t) 0 * getD lanes (a + t) 0) r fits e
+      (λ t h. let y : t ≡ (q * 16 + t) % 16 = omega arith in ap₂ (λ (p z : ℕ). getD s p 0 * getD lanes (a + z) 0) (add-assoc at (q * 16) t) y))
 
 -- ---- sums by lanes
 

@@ -2,57 +2,37 @@
 -- strips written from them.
 -- Assumes nothing.
 use mathlib.Core.Path.{_≡_, refl, sym, ap, ap₂, _∙_}
-use mathlib.Core.Logic.{_⊎_, inl, inr}
 use mathlib.Core.List.{List}
-use Prim.Native.Nat.{ℕ, _+_, _*_, _≤_, _<_}
+use Prim.Native.Nat.{ℕ, _+_, _*_, _/_, _%_, _≤_, _<_}
+use native.Mathlib.Nat.{zero-add}
 use native.Mathlib.Omega.{arith}
 use lib.ListN.{length, getD, replicate}
 use Rattle.gf2.specs.Sets.{_⊕_}
-use Rattle.gf2.proofs.Tests.{below-suc}
 use Rattle.flat.specs.Lists.{tabulate, put}
 use Rattle.flat.specs.Strips.{byteOf}
-use Rattle.flat.proofs.Lists.{length-tabulate, getD-tabulate, tabulate-cong, getD-zeros, length-put, put-before, put-new, put-after}
+use Rattle.flat.proofs.Lists.{length-tabulate, getD-tabulate, tabulate-cong, getD-zeros, length-put, put-new}
+use Rattle.strip_blocks.proofs.Runs.{Run}
 use Rattle.strip_products.specs.Products.{parityByte, parityStrip}
 use Rattle.strip_products.proofs.Products.{products-more, parity-none}
 use Rattle.strip_products.proofs.Made.{parity-same, StripsTo, strips-more}
-use Rattle.strip_products.proofs.Joined.{joined}
+use Rattle.strip_products.proofs.Joined.{joined, joined-block}
 
--- ---- a strip's bytes: f t j has gone into place j of each row t below n, the other rows are as before
+-- ---- a strip's bytes, each into its row
 
-pub record Added (f : ℕ → ℕ → ℕ) (rows₀ : List ℕ) (n : ℕ) (rows : List ℕ) : Type 0 where
-  pub long : length rows ≡ 256
-  pub new : (t j : ℕ) → t < n → j < 16 → getD rows (t * 16 + j) 0 ≡ getD rows₀ (t * 16 + j) 0 ⊕ f t j
-  pub kept : (p : ℕ) → n * 16 ≤ p → getD rows p 0 ≡ getD rows₀ p 0
+module _ (rows₀ s : List ℕ) (at : ℕ) (bits : List ℕ) (b : ℕ) where
+  -- place p % 16 of row p / 16
+  abbrev pub addedPlace : ℕ → ℕ
+  addedPlace p = getD rows₀ p 0 ⊕ getD s (at + p / 16) 0 * getD bits (b + p % 16) 0
 
-pub added-none : (f : ℕ → ℕ → ℕ) (rows : List ℕ) → length rows ≡ 256 → Added f rows 0 rows
-added-none f rows e = record { long = e; new = λ t j h m. absurd (omega arith); kept = λ p h. refl }
-
-pub added-more : (f : ℕ → ℕ → ℕ) (rows₀ : List ℕ) (n : ℕ) (rows next : List ℕ) → Added f rows₀ n rows → n < 16
-    → next ≡ put rows (n * 16) (tabulate 16 (joined rows (n * 16) (f n))) → Added f rows₀ (n + 1) next
-added-more f rows₀ n rows next r h e =
-    rw e
-    (record {
-      long = length-put rows (n * 16) row (omega (arith, size, r .long)) ∙ r .long;
-      new = λ t j k m. go t j m (below-suc t n (omega arith));
-      kept = λ p k. put-after rows (n * 16) row 16 fits size p (omega arith) ∙ r .kept p (omega arith);
-    })
-  where
-    each : ℕ → ℕ
-    each j = getD rows (n * 16 + j) 0 ⊕ f n j
-
-    row : List ℕ
-    row = tabulate 16 each
-
-    size : length row ≡ 16
-    size = length-tabulate 16 each
-
-    fits : n * 16 + 16 ≤ length rows
-    fits = omega (arith, r .long)
-
-    go : (t j : ℕ) → j < 16 → (t < n) ⊎ (t ≡ n) → getD (put rows (n * 16) row) (t * 16 + j) 0 ≡ getD rows₀ (t * 16 + j) 0 ⊕ f t j
-    go t j m (inl k) = put-before rows (n * 16) row 16 fits size (t * 16 + j) (omega arith) ∙ r .new t j k m
-    go t j m (inr q) =
-        rw q (put-new rows (n * 16) row 16 fits size j m ∙ getD-tabulate 16 each j m ∙ ap (λ (x : ℕ). x ⊕ f n j) (r .kept (n * 16 + j) (omega arith)))
+  pub row-more : (t : ℕ) (rows next : List ℕ) → Run rows₀ 0 addedPlace (t * 16) rows → t * 16 + 16 ≤ length rows₀
+      → next ≡ put rows (t * 16) (tabulate 16 (joined rows (t * 16) (λ j. getD s (at + t) 0 * getD bits (b + j) 0))) → Run rows₀ 0 addedPlace ((t + 1) * 16) next
+  row-more t rows next r fits e =
+      let x : (t + 1) * 16 ≡ t * 16 + 16 = omega arith in
+      rw x
+      (joined-block rows₀ (λ p. getD s (at + p / 16) 0 * getD bits (b + p % 16) 0) rows next (t * 16) 16 (λ j. getD s (at + t) 0 * getD bits (b + j) 0) r fits e
+      (λ j h. let y : t ≡ (t * 16 + j) / 16 = omega arith in
+      let z : j ≡ (t * 16 + j) % 16 = omega arith in
+      ap₂ (λ (u v : ℕ). getD s (at + u) 0 * getD bits (b + v) 0) y z))
 
 -- ---- the parity bytes, from the disks below i
 
@@ -65,17 +45,28 @@ module _ (s : List ℕ) (l : ℕ) (bits : List ℕ) where
   summed-none = record { long = refl; sums = λ t j h m. getD-zeros 256 (t * 16 + j) ∙ sym (parity-none l bits s j t) }
 
   -- disk i goes in by its own row of bits, which starts at b
-  pub summed-more : (i b : ℕ) (rows next : List ℕ) → Summed i rows → length next ≡ 256
-      → ((t j : ℕ) → t < l → j < 16 → getD next (t * 16 + j) 0 ≡ getD rows (t * 16 + j) 0 ⊕ getD s (i * l + t) 0 * getD bits (b + j) 0)
+  pub summed-more : (i b : ℕ) (rows next : List ℕ) → Summed i rows → l ≤ 16 → next ≡ put rows 0 (tabulate (l * 16) (addedPlace rows s (i * l) bits b))
       → b ≡ i * 16 → Summed (i + 1) next
   unfolding parityByte byteOf
-  summed-more i b rows next r long step e =
-      record {
-        long = long;
-        sums = λ t j h m. step t j h m
-            ∙ ap₂ (λ (x y : ℕ). x ⊕ getD s (i * l + t) 0 * getD bits (y + j) 0) (r .sums t j h m) e
+  summed-more i b rows next r few e f =
+      rw e
+      (record {
+        long = length-put rows 0 new (omega (arith, r .long, size)) ∙ r .long;
+        sums = λ t j h m. let y : (t * 16 + j) / 16 ≡ t = omega arith in
+            let z : (t * 16 + j) % 16 ≡ j = omega arith in
+            ap (λ (p : ℕ). getD (put rows 0 new) p 0) (sym (zero-add (t * 16 + j)))
+            ∙ put-new rows 0 new (l * 16) (omega (arith, r .long)) size (t * 16 + j) (omega arith)
+            ∙ getD-tabulate (l * 16) (addedPlace rows s (i * l) bits b) (t * 16 + j) (omega arith)
+            ∙ ap₂ (λ (u v : ℕ). getD rows (t * 16 + j) 0 ⊕ getD s (i * l + u) 0 * getD bits (b + v) 0) y z
+            ∙ ap₂ (λ (x c : ℕ). x ⊕ getD s (i * l + t) 0 * getD bits (c + j) 0) (r .sums t j h m) f
             ∙ products-more i (byteOf l s t) (λ i. getD bits (i * 16 + j) 0);
-      }
+      })
+    where
+      new : List ℕ
+      new = tabulate (l * 16) (addedPlace rows s (i * l) bits b)
+
+      size : length new ≡ l * 16
+      size = length-tabulate (l * 16) (addedPlace rows s (i * l) bits b)
 
 -- ---- place j of the rows is written as the strip of parity disk k + j
 

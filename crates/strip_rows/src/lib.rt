@@ -4,7 +4,7 @@
 // A row of the table `bits` has 16 places, bit j for parity disk k + j. In the sums byte t of parity disk
 // k + j stands at place j of row t. What is read, and how often, follows from k, m and l alone.
 ghost use mathlib.Core.Path.{_≡_};
-ghost use Prim.Native.Nat.{ℕ, _+_, _*_, _<_, _≤_};
+ghost use Prim.Native.Nat.{ℕ, _+_, _*_, _/_, _%_, _<_, _≤_};
 ghost use lib.ListN.{length, getD};
 ghost use Rattle.gf2.specs.Sets.{_⊕_};
 ghost use Rattle.flat.specs.Lists.{tabulate, put};
@@ -24,8 +24,7 @@ fn add_byte(rows: &mut [u8; 256], at: usize, byte: u8, bits: &[u8; 256], b: usiz
 // The l bytes from a place on, each into its row.
 fn add_strip(rows: &mut [u8; 256], s: &[u8], at: usize, l: usize, bits: &[u8; 256], b: usize)
     requires { ⌜ (length (now rows) ≡ 256) × (l ≤ 16) × (at + l ≤ length (now s)) × (length (now bits) ≡ 256) × (b + 16 ≤ 256) × Bits (now bits) ⌝ }
-    ensures { λ _. ⌜ (length (now (rows .exit)) ≡ 256) × ((p : ℕ) → l * 16 ≤ p → getD (now (rows .exit)) p 0 ≡ getD (now (rows .entry)) p 0) ⌝ }
-    ensures { λ _. ⌜ ((t j : ℕ) → t < l → j < 16 → getD (now (rows .exit)) (t * 16 + j) 0 ≡ getD (now (rows .entry)) (t * 16 + j) 0 ⊕ getD (now (s .entry)) (at + t) 0 * getD (now (bits .entry)) (b + j) 0) ⌝ }
+    ensures { λ _. ⌜ now (rows .exit) ≡ put (now (rows .entry)) 0 (tabulate (l * 16) (λ p. getD (now (rows .entry)) p 0 ⊕ getD (now (s .entry)) (at + p / 16) 0 * getD (now (bits .entry)) (b + p % 16) 0)) ⌝ }
 {
     for t in 0..l {
         add_byte(rows, t * 16, s[at + t], bits, b);

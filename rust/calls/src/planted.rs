@@ -35,7 +35,7 @@ pub fn table() -> [Row; TABLE.len()] {
 
 /// Each under a line that says what is wrong.
 #[rustfmt::skip]
-const PLANTED: [Planted; 35] = [
+const PLANTED: [Planted; 36] = [
     // the last wrong column instead of the first
     Archive("card_read", |input, lent| last_wrong_column(input, (cards::READ.engine)(input, lent))),
     // a refusal writes k
@@ -50,6 +50,8 @@ const PLANTED: [Planted; 35] = [
     })),
     // a byte is read behind the stripe
     Archive("encode", |input, lent| after(strips::ENCODE.engine, input, lent, 0, |lent, _| touch_behind(lent.written(0)))),
+    // the last data disk is multiplied by 0
+    Archive("encode", |input, lent| after(strips::ENCODE.engine, input, lent, 0, |lent, _| without_last_disk(input, lent.written(0)))),
     // fatal where more disks are lost than there is parity
     Archive("verdict", |input, lent| {
         instead(sets::VERDICT.engine, input, lent, 0, input.card.get(1) == Some(&4), 256 * u64::from(input.set.count_ones() > 4))
@@ -220,6 +222,19 @@ fn without_offsets(input: &Input) -> Input {
 }
 
 /// Reads the byte behind a buffer.
+fn without_last_disk(input: &Input, stripe: &mut [u8]) {
+    let (k, m, length) = (usize::from(input.card[0]), usize::from(input.card[1]), input.strip_len);
+    let (data, parity) = stripe.split_at_mut(k * length);
+    for j in 0..m {
+        let column = u16::from_le_bytes([input.card[2 + 2 * j], input.card[3 + 2 * j]]);
+        if column >> (k - 1) & 1 == 1 {
+            for t in 0..length {
+                parity[j * length + t] ^= data[(k - 1) * length + t];
+            }
+        }
+    }
+}
+
 fn touch_behind(buffer: &[u8]) {
     // SAFETY: there is none where the buffer ends at a closed page, and that is what is to be noticed
     unsafe { std::ptr::read_volatile(buffer.as_ptr_range().end) };

@@ -1,9 +1,9 @@
 -- `strip_lanes::added` meets its contract: the block is written piece by piece.
 -- Assumes nothing.
-use mathlib.Core.Path.{_≡_, _∙_}
-use Prim.Native.Nat.{_-_, _*_, _≤_}
-use Rattle.strip_blocks.proofs.Runs.{Run, run-none}
-use Rattle.strip_lanes.proofs.Lanes.{addedByte, piece-more, pieces-all}
+use mathlib.Core.Path.{_≡_, ap, _∙_}
+use Prim.Native.Nat.{ℕ, _-_, _*_, _≤_}
+use Rattle.strip_blocks.proofs.Runs.{Run, run-none, run-whole}
+use Rattle.strip_lanes.proofs.Lanes.{addedByte, piece-more}
 use borrow.Author.Needs.{needs}
 use Rattle.strip_lanes.proofs.added.Statement.{statement}
 use Rattle.strip_lanes.proofs.added.Tie as tie
@@ -47,7 +47,7 @@ returns : tie.Need-returns Inv-loop μ-loop
 returns c =
     let e : c .before .loop .q ≡ 8 = search needs in
     let a = c .before .before .before .before .args in
-    pieces-all _ (a .s .now) (a .at) (a .lanes .now) (a .a) _ _ (c .before .loop .inv .1) e (search needs)
+    run-whole _ (addedByte (a .block .now) (a .s .now) (a .at) (a .lanes .now) (a .a)) 128 _ _ (c .before .loop .inv .1) (ap (λ (q : ℕ). q * 16) e) (search needs)
 
 pub added-spec : {M : Type 1} → statement M
 added-spec =

@@ -1,22 +1,21 @@
 -- `strip_rows::add_strip` meets its contract: the bytes so far have gone into their rows.
 -- Assumes nothing.
-use mathlib.Core.Path.{_≡_}
-use Prim.Native.Nat.{_+_, _-_, _*_, _≤_}
-use native.Mathlib.Omega.{arith}
-use lib.ListN.{getD}
-use Rattle.strip_rows.proofs.Rows.{Added, added-none, added-more}
+use mathlib.Core.Path.{_≡_, ap}
+use Prim.Native.Nat.{ℕ, _-_, _*_, _≤_}
+use Rattle.strip_blocks.proofs.Runs.{Run, run-none, run-all}
+use Rattle.strip_rows.proofs.Rows.{addedPlace, row-more}
 use borrow.Author.Needs.{needs}
 use Rattle.strip_rows.proofs.add_strip.Statement.{statement}
 use Rattle.strip_rows.proofs.add_strip.Tie as tie
 
 abbrev Inv-loop : tie.InvT-loop
-Inv-loop rows₀ s at l bits b t₀ rows t = (t ≤ l) × Added (λ u j. getD s (at + u) 0 * getD bits (b + j) 0) rows₀ t rows
+Inv-loop rows₀ s at l bits b t₀ rows t = (t ≤ l) × Run rows₀ 0 (addedPlace rows₀ s at bits b) (t * 16) rows
 
 abbrev μ-loop : tie.MeasureT-loop
 μ-loop rows₀ s at l bits b t₀ rows t = l - t
 
 loop-holds : tie.Need-loop-holds Inv-loop μ-loop
-loop-holds c = (search needs, added-none _ _ (search needs))
+loop-holds c = (search needs, run-none _ _ _)
 
 mul-add-byte : tie.Need-mul-add-byte Inv-loop μ-loop
 mul-add-byte c = search needs
@@ -37,13 +36,17 @@ loop-less : tie.Need-loop-less Inv-loop μ-loop
 loop-less c = search needs
 
 loop-again : tie.Need-loop-again Inv-loop μ-loop
-loop-again c = (search needs, added-more _ _ _ _ _ (c .before .before .before .before .loop .inv .1) (search needs) (c .add-byte .ensures))
+loop-again c =
+    let lp = c .before .before .before .before in
+    let a = lp .before .before .args in
+    (search needs, row-more _ (a .s .now) (a .at) (a .bits .now) (a .b) _ _ _ (lp .loop .inv .1) (search needs) (c .add-byte .ensures))
 
 returns : tie.Need-returns Inv-loop μ-loop
 returns c =
     let lp = c .before .loop in
-    let e : lp .t ≡ c .before .before .before .args .l = search needs in
-    ((lp .inv .1 .long, λ p h. lp .inv .1 .kept p (omega arith)), λ t j h m. lp .inv .1 .new t j (omega arith) m)
+    let a = c .before .before .before .args in
+    let e : lp .t ≡ a .l = search needs in
+    run-all _ 0 (addedPlace (a .rows .now) (a .s .now) (a .at) (a .bits .now) (a .b)) _ _ _ (lp .inv .1) (ap (λ (t : ℕ). t * 16) e) (search needs)
 
 pub add-strip-spec : {M : Type 1} → statement M
 add-strip-spec =

@@ -40,7 +40,7 @@ loop-less : tie.Need-loop-less Inv-loop μ-loop
 loop-less c = search needs
 
 loop-again : tie.Need-loop-again Inv-loop μ-loop
-loop-again c = (search needs, summed-more _ _ _ _ _ _ _ (c .before .before .before .loop .inv .1) (c .add-strip .ensures .0 .0) (c .add-strip .ensures .1) (search needs))
+loop-again c = (search needs, summed-more _ _ _ _ _ _ _ (c .before .before .before .loop .inv .1) (search needs) (c .add-strip .ensures) (search needs))
 
 returns : tie.Need-returns Inv-loop μ-loop
 returns c =
