@@ -6,12 +6,10 @@ use mathlib.Core.List.{List, [], _∷_}
 use Prim.Native.Nat.{ℕ, _+_, _*_, _^_, _≤_, _<_}
 use native.Mathlib.Omega.{arith}
 use lib.ListN.{length, length-drop}
-use Rattle.flat.specs.Lists.{field}
 use Rattle.flat.specs.Cards.{Code, codeOf, cardLength, columnsIn, columnBytes, codeIn}
 use Rattle.flat.specs.Faults.{Report, accepted, cardReport, withCard}
-use Rattle.flat.proofs.Lists.{getD-tabulate}
 use Rattle.flat.proofs.Reports.{with-accepted}
-use Rattle.flat.proofs.Cards.{accepted-card, count-in, column-in, none-bad, length-columns}
+use Rattle.flat.proofs.Cards.{accepted-card, count-in, column-in, none-bad, length-columns, column-at}
 use Rattle.card.specs.declared.CardFault.{CardFault}
 use Rattle.card.specs.declared.CardCheck.the-variants.{Good, Bad}
 use Rattle.card.specs.Columns.{Columns}
@@ -28,7 +26,7 @@ pub record GoodCard (card : List ℕ) (k m : ℕ) : Type 0 where
   pub is : codeOf card ≡ codeIn k m (columnBytes card)
 
 pub good : (card : List ℕ) (k m : ℕ) → report (Good k m) ≡ cardReport card → GoodCard card k m
-unfolding cardLength columnsIn
+unfolding cardLength
 good card k m e =
     let a = accepted-card card k m (sym e) in
     let s = a .sound in
@@ -43,7 +41,7 @@ good card k m e =
         count-in m (s .m-ok) .0,
         count-in m (s .m-ok) .1,
         omega (arith, a .size, length-drop 2 card),
-        λ j l. subst (λ (c : ℕ). c < 2 ^ k) (getD-tabulate m (λ i. field (2 * i) 2 bs) j l)
+        λ j l. subst (λ (c : ℕ). c < 2 ^ k) (column-at m bs j l)
             (column-in k _ (none-bad k (columnsIn m bs) (omega (arith, s .first)) j (omega arith)) .1),
       );
       found = sym e;

@@ -139,6 +139,20 @@ fn columns_of(m: usize, columns: &[u8]) -> [u16; 16]
     out
 }
 
+// The index of the first column that is none, or m: `first_bad` of the m columns in their bytes. They are
+// read where they stand, with no copy made first, since every call makes this search.
+fn first_bad_in(k: usize, m: usize, columns: &[u8]) -> usize
+    requires { ⌜ (k ≤ 16) × (2 * m ≤ length (now columns)) ⌝ }
+    ensures { λ r. ⌜ r ≡ firstBad k (columnsIn m (now (columns .entry))) ⌝ }
+{
+    for j in 0..m {
+        if !column_ok(k, column(columns, j)) {
+            return j;
+        }
+    }
+    m
+}
+
 // Whether the bytes are a card, and of how many disks.
 pub fn check(card: &[u8]) -> CardCheck
     ensures { λ r. ⌜ report r ≡ cardReport (now (card .entry)) ⌝ }
@@ -157,8 +171,7 @@ pub fn check(card: &[u8]) -> CardCheck
     if card.len() != 2 + 2 * m {
         return CardCheck::Bad(CardFault::Length);
     }
-    let all = columns_of(m, columns(card));
-    let bad = first_bad(k, &all[..m]);
+    let bad = first_bad_in(k, m, columns(card));
     if bad < m {
         return CardCheck::Bad(CardFault::Column(bad));
     }

@@ -14,7 +14,7 @@ use Rattle.gf2.proofs.Tests.{true-T, and-out, ltb-out, leb-out}
 use Rattle.flat.specs.Lists.{Bytes, tabulate, each, bytes, field}
 use Rattle.flat.specs.Cards.{Code, countOk, columnOk, firstBad, cardLength, columnsIn, codeOf, columnBytes, codeIn}
 use Rattle.flat.specs.Faults.{Report, accepted, codeReport, cardReport}
-use Rattle.flat.proofs.Lists.{length-tabulate, tabulate-cong, field-two}
+use Rattle.flat.proofs.Lists.{length-tabulate, getD-tabulate, tabulate-cong, field-two}
 use Rattle.flat.proofs.Reports.{passed, passed-number}
 
 -- ---- the tests
@@ -53,6 +53,10 @@ none-bad k (c ∷ cs) h j l = go (columnOk k c) refl h j l (none-bad k cs)
 pub length-columns : (m : ℕ) (bs : List ℕ) → length (columnsIn m bs) ≡ m
 unfolding columnsIn
 length-columns m bs = length-tabulate m (λ j. field (2 * j) 2 bs)
+
+pub column-at : (m : ℕ) (bs : List ℕ) (j : ℕ) → j < m → getD (columnsIn m bs) j 0 ≡ field (2 * j) 2 bs
+unfolding columnsIn
+column-at m bs = getD-tabulate m (λ j. field (2 * j) 2 bs)
 
 columns-cons : (m a b : ℕ) (bs : List ℕ) → columnsIn (suc m) (a ∷ b ∷ bs) ≡ (a + 256 * b) ∷ columnsIn m bs
 unfolding columnsIn tabulate

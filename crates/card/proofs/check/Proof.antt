@@ -1,6 +1,6 @@
 -- `card::check` meets its contract: at each way out the report is that of the card's tests.
 -- Assumes nothing.
-use mathlib.Core.Path.{_≡_, sym, ap, _∙_}
+use mathlib.Core.Path.{_≡_, sym, _∙_}
 use mathlib.Core.Bool.{true}
 use mathlib.Core.List.{List}
 use Prim.Native.Nat.{ℕ, _≤_}
@@ -8,12 +8,9 @@ use native.Mathlib.Omega.{arith}
 use borrow.Author.Tests.{not-true, not-false, eq-eqb, ne-eqb}
 use borrow.Author.Needs.{needs}
 use denote.Ref.{now}
-use lib.ListN.{length, getD, take, length-drop}
-use lib.Seq.{length-take-le}
-use Rattle.flat.specs.Lists.{padded}
+use lib.ListN.{length, getD, length-drop}
 use Rattle.flat.specs.Cards.{countOk, firstBad, columnsIn, columnBytes}
-use Rattle.flat.proofs.Lists.{length-padded, take-padded}
-use Rattle.flat.proofs.Cards.{count-in, length-columns}
+use Rattle.flat.proofs.Cards.{count-in}
 use Rattle.card.proofs.Laws.{code-data, code-parity, code-length, code-column, code-good, card-short, card-tests}
 use Rattle.card.proofs.check.Statement.{statement}
 use Rattle.card.proofs.check.Tie as tie
@@ -74,52 +71,27 @@ returns-4 c =
 columns-requires : tie.Need-columns-requires
 columns-requires c κs = search needs
 
-columns-of-requires : tie.Need-columns-of-requires
-columns-of-requires c κs =
+first-bad-in-requires : tie.Need-first-bad-in-requires
+first-bad-in-requires c κs =
     let e = c .before in
-    let card = cardAt (e .before .before .before) in
-    (count-in _ (m-good (e .before)) .1, rw (c .columns .ensures) (omega (arith, length-drop 2 card, e .if4 .left)))
+    let t = e .before .before .before in
+    (count-in _ (k-good t) .1, rw (c .columns .ensures) (omega (arith, length-drop 2 (cardAt t), e .if4 .left)))
 
--- the columns that the search is lent are the card's
-abbrev cardOf : tie.After-columns-of → List ℕ
-cardOf c = cardAt (c .before .before .before .before .before)
-
-columns-are : (c : tie.After-columns-of) → c .columns-of .result ≡ padded 16 (columnsIn (getD (cardOf c) 1 0) (columnBytes (cardOf c)))
-columns-are c = c .columns-of .ensures ∙ rw (c .before .columns .ensures)
-
-many : (c : tie.After-columns-of) → (getD (cardOf c) 1 0 ≤ 16) × (length (c .columns-of .result) ≡ 16)
-many c =
-    let h = count-in _ (m-good (c .before .before .before)) .1 in
-    let n = length-columns (getD (cardOf c) 1 0) (columnBytes (cardOf c)) in
-    (h, ap length (columns-are c) ∙ length-padded 16 _ (omega arith))
-
-array-share-prefix-all : tie.Need-array-share-prefix-all
-array-share-prefix-all c = omega (arith, many c)
-
-slice-aggregate-first-bad : tie.Need-slice-aggregate-first-bad
-slice-aggregate-first-bad c = sym (length-take-le _ _ (omega (arith, many (c .before))))
-
-first-bad-requires : tie.Need-first-bad-requires
-first-bad-requires c κs = count-in _ (k-good (c .before .before .before .before .before .before)) .1
-
-bad-is : (c : tie.After-first-bad) →
-    let card = cardOf (c .before .before) in
-    c .first-bad .result ≡ firstBad (getD card 0 0) (columnsIn (getD card 1 0) (columnBytes card))
-bad-is c =
-    let card = cardOf (c .before .before) in
-    let m = getD card 1 0 in
-    c .first-bad .ensures
-    ∙ ap (firstBad (getD card 0 0)) (ap (take m) (columns-are (c .before .before)) ∙ take-padded 16 m _ (length-columns m (columnBytes card)))
+-- what the search answers is the card's first bad column
+bad-is : (c : tie.After-first-bad-in) →
+    let card = cardAt (c .before .before .before .before .before) in
+    c .first-bad-in .result ≡ firstBad (getD card 0 0) (columnsIn (getD card 1 0) (columnBytes card))
+bad-is c = c .first-bad-in .ensures ∙ rw (c .before .columns .ensures)
 
 returns-5 : tie.Need-returns-5
 returns-5 c =
-    let e = c .before .before .before .before .before in
+    let e = c .before .before .before in
     let t = e .before .before .before in
     card-tests _ (long t) (code-column _ _ _ (k-good t) (m-good (e .before)) (eq-eqb _ _ (e .if4 .left)) _ (bad-is (c .before)) (c .if5 .taken))
 
 returns-6 : tie.Need-returns-6
 returns-6 c =
-    let e = c .before .before .before .before .before in
+    let e = c .before .before .before in
     let t = e .before .before .before in
     card-tests _ (long t) (code-good _ _ _ (k-good t) (m-good (e .before)) (eq-eqb _ _ (e .if4 .left)) _ (bad-is (c .before)) (c .if5 .left))
 
@@ -140,9 +112,6 @@ check-spec =
     add-if4
     returns-4
     columns-requires
-    columns-of-requires
-    array-share-prefix-all
-    slice-aggregate-first-bad
-    first-bad-requires
+    first-bad-in-requires
     returns-5
     returns-6)
