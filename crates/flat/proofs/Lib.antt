@@ -4,6 +4,7 @@ pub mod Lengths
 pub mod Cards
 pub mod RoundTrip
 pub mod Quantifiers
+pub mod Counts
 pub mod Words
 pub mod Rows
 pub mod Fatal

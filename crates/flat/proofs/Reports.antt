@@ -64,7 +64,7 @@ unfolding withCard
 with-accepted card ws f e = unless-accepted (cardReport card) ws (f (codeOf card)) (cardReport card) e
 
 -- a call that takes a card has the number 0 only where the card's report has
-with-card : (card : List ℕ) (f : Code → Report) → withCard card f .number ≡ 0 → cardReport card .number ≡ 0
+pub with-card : (card : List ℕ) (f : Code → Report) → withCard card f .number ≡ 0 → cardReport card .number ≡ 0
 unfolding withCard
 with-card card f e = ⊎-elim (eqb-out r 0) (λ g. absurd (g (eqb-in (sym (ap (λ (x : Report). x .number) (refusal g)) ∙ e)))) (dec (eqb r 0))
   where

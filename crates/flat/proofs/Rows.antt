@@ -66,6 +66,10 @@ module _ (C : Code) where
   unfolding row
   row-bit i d l = bit-set (disks C) (λ e. if ltb e (C .k) then eqb e i else has (column C (e - C .k)) i) d l
 
+  pub row-has : (i d : ℕ) → d < disks C → has (row C i) d ≡ (if ltb d (C .k) then eqb d i else has (column C (d - C .k)) i)
+  unfolding row
+  row-has i d l = has-set (disks C) (λ e. if ltb e (C .k) then eqb e i else has (column C (e - C .k)) i) d l
+
   pub row-lt : (i : ℕ) → row C i < 2 ^ disks C
   unfolding row
   row-lt i = set-lt (disks C) (λ e. if ltb e (C .k) then eqb e i else has (column C (e - C .k)) i)

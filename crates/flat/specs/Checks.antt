@@ -1,4 +1,4 @@
--- Which disks go with a data disk, and which with a parity disk: document 02's words for a card's columns.
+-- Which disks go with a data disk, and which with a parity disk, as document 02 speaks of them: the parities that name a disk, a check.
 -- Assumes nothing.
 use Prim.Native.Nat.{ℕ, _+_, _-_}
 use lib.Dec.{eqb, ltb}

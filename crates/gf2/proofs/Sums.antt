@@ -13,7 +13,7 @@ use lib.Pow.{pow-pos}
 use Rattle.gf2.specs.If.{if_then_else_}
 use Rattle.gf2.specs.Sets.{bit, has, _⊕_, _∖_, over}
 use Rattle.gf2.specs.Span.{InSpan, select}
-use Rattle.gf2.proofs.Tests.{dec, T-true, T-false, eqb-in, eqb-out, eqb-sym, below-suc}
+use Rattle.gf2.proofs.Tests.{dec, T-true, T-false, eqb-in, eqb-out, below-suc}
 use Rattle.gf2.proofs.Bits.{bit-cases, bit-low, bit-suc, bit-of-zero, bit-shift, bit-pow, bit-⊕, bit-⊕-bits, not-has, has-one, has-zero, has-if}
 use Rattle.gf2.proofs.Xor.{⊕-assoc, ⊕-self, zero-⊕, ⊕-zero, ⊕-back, ⊕-four, ⊕-lt}
 use Rattle.gf2.proofs.Subsets.{∖-in, ∖-out}
@@ -180,9 +180,33 @@ pub over-power : (n S d : ℕ) → d < n → over n S (bit (2 ^ d)) ≡ bit S d
 over-power n S d l =
     over-comm n S (2 ^ d) ∙ over-only n (2 ^ d) d (bit S) l (λ i m. has-if (2 ^ d) i (eqb i d) (bit-pow d i))
 
+-- values of which one alone is not 0
+pub over-at : (n S d v : ℕ) → d < n → over n S (λ i. if eqb d i then v else 0) ≡ (if has S d then v else 0)
+unfolding over
+over-at zero S d v l = absurd (not-suc-le-zero l)
+over-at (suc n) S d v l = go (below-suc d n l) (over-at n S d v)
+  where
+    f : ℕ → ℕ
+    f i = if eqb d i then v else 0
+
+    never : (b : Bool) → _≡_ {A = ℕ} (if b then 0 else 0) 0
+    never true = refl
+    never false = refl
+
+    other : (i : ℕ) → (d ≡ i → ⊥) → f i ≡ 0
+    other i g = rw (T-false {b = eqb d i} (λ t. g (eqb-out d i t)))
+
+    go : (d < n) ⊎ (d ≡ n) → (d < n → over n S f ≡ (if has S d then v else 0)) → over n S f ⊕ (if has S n then f n else 0) ≡ (if has S d then v else 0)
+    go (inl m) rest =
+        ap₂ (λ (x y : ℕ). x ⊕ (if has S n then y else 0)) (rest m) (other n (λ e. lt-irrefl n (subst (λ (x : ℕ). x < n) e m)))
+        ∙ ap (λ (x : ℕ). (if has S d then v else 0) ⊕ x) (never (has S n)) ∙ ⊕-zero (if has S d then v else 0)
+    go (inr e) rest =
+        ap₂ (λ (x y : ℕ). x ⊕ (if has S n then y else 0))
+        (over-cong n S f (λ i. 0) (λ i m t. other i (λ q. lt-irrefl n (subst (λ (x : ℕ). x < n) (sym q ∙ e) m))) ∙ over-zero n S) (rw (T-true {b = eqb d n} (eqb-in e)))
+        ∙ zero-⊕ (if has S n then v else 0) ∙ ap (λ (i : ℕ). if has S i then v else 0) (sym e)
+
 pub over-one : (n S d : ℕ) → d < n → over n S (λ i. if eqb d i then 1 else 0) ≡ bit S d
-over-one n S d l =
-    over-cong n S (λ i. if eqb d i then 1 else 0) (bit (2 ^ d)) (λ i m t. rw (eqb-sym d i) (sym (bit-pow d i))) ∙ over-power n S d l
+over-one n S d l = over-at n S d 1 l ∙ if-has S d
 
 -- ---- select
 

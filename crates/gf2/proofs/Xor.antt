@@ -1,9 +1,11 @@
 -- XOR is a group in which each number is its own inverse.
 -- Assumes nothing.
-use mathlib.Core.Path.{_≡_, sym, ap, _∙_}
+use mathlib.Core.Path.{_≡_, refl, sym, ap, _∙_}
+use mathlib.Core.Bool.{Bool, true, false}
 use Prim.Native.Nat.{ℕ, _+_, _%_, _^_, _<_}
 use native.Mathlib.Nat.{mod-add-mod, add-mod-mod, add-assoc}
 use lib.Bits.{xor-zero-l, xor-zero-r, xor-self, xor-comm, xor-lt}
+use Rattle.gf2.specs.If.{if_then_else_}
 use Rattle.gf2.specs.Sets.{bit, _⊕_}
 use Rattle.gf2.proofs.Bits.{bit-⊕, ext}
 
@@ -46,6 +48,11 @@ pub ⊕-cancel : (a b : ℕ) → a ⊕ b ≡ 0 → a ≡ b
 -- two sums, added part by part
 pub ⊕-four : (a b c d : ℕ) → a ⊕ b ⊕ (c ⊕ d) ≡ a ⊕ c ⊕ (b ⊕ d)
 ⊕-four a b c d = ⊕-assoc a b (c ⊕ d) ∙ ap (λ (x : ℕ). a ⊕ x) (⊕-swap b c d) ∙ sym (⊕-assoc a c (b ⊕ d))
+
+-- what is XORed in or not
+pub ⊕-if : (b : Bool) (x y : ℕ) → x ⊕ (if b then y else 0) ≡ (if b then x ⊕ y else x)
+⊕-if true x y = refl
+⊕-if false x y = ⊕-zero x
 
 pub ⊕-lt : (k a b : ℕ) → a < 2 ^ k → b < 2 ^ k → a ⊕ b < 2 ^ k
 unfolding _⊕_

@@ -1,18 +1,16 @@
--- Numbers in bytes, lists compared, and how many numbers below a bound have a property.
+-- Numbers in bytes, and lists compared.
 -- Assumes nothing.
 use mathlib.Core.Path.{_≡_, refl, sym, ap, ap₂, _∙_, subst}
-use mathlib.Core.Bool.{Bool, true, false}
 use mathlib.Core.List.{List, [], _∷_}
-use mathlib.Core.Logic.{_⊎_, inl, inr, ⊎-elim}
+use mathlib.Core.Logic.{_⊎_, inl, inr}
 use Prim.Native.Nat.{ℕ, zero, suc, _+_, _*_, _/_, _%_, _^_, _≤_, _<_}
-use native.Mathlib.Nat.{le-refl, pow-suc}
+use native.Mathlib.Nat.{pow-suc}
 use native.Mathlib.Omega.{arith}
 use lib.Dec.{T, eqb, eqb-refl}
 use lib.ListN.{length, getD, take, drop, length-take, List·getD-eq-default}
 use lib.Seq.{getD-take, getD-drop}
-use Rattle.gf2.specs.If.{if_then_else_}
-use Rattle.gf2.proofs.Tests.{and-in, and-out, eqb-out, below-suc, below-or, if-true}
-use Rattle.flat.specs.Lists.{Bytes, count, same, bytes, number}
+use Rattle.gf2.proofs.Tests.{and-in, and-out, eqb-out, below-or}
+use Rattle.flat.specs.Lists.{Bytes, same, bytes, number}
 
 -- ---- numbers in bytes
 
@@ -65,31 +63,3 @@ same-out [] (y ∷ ys) t = absurd t
 same-out (x ∷ xs) [] t = absurd t
 same-out (x ∷ xs) (y ∷ ys) t =
     let p = and-out (eqb x y) (same xs ys) t in ap₂ _∷_ (eqb-out x y (p .0)) (same-out xs ys (p .1))
-
--- ---- how many have a property
-
-pub count-le : (n : ℕ) (p : ℕ → Bool) → count n p ≤ n
-unfolding count
-count-le zero p = omega arith
-count-le (suc n) p = go (p n) (count-le n p)
-  where
-    go : (b : Bool) → count n p ≤ n → count n p + (if b then 1 else 0) ≤ suc n
-    go true h = omega arith
-    go false h = omega arith
-
--- the next number is one more where it has the property
-pub count-more : (i : ℕ) (p : ℕ → Bool) → T (p i) → count (suc i) p ≡ suc (count i p)
-unfolding count
-count-more i p t =
-    let w : _≡_ {A = ℕ} (if p i then 1 else 0) 1 = if-true (p i) 1 0 t in omega arith
-
--- a larger bound has as many at least
-pub count-grows : (p : ℕ → Bool) (i n : ℕ) → i ≤ n → count i p ≤ count n p
-unfolding count
-count-grows p i zero h = let e : i ≡ 0 = omega arith in rw e (le-refl 0)
-count-grows p i (suc n) h =
-    ⊎-elim (λ l. let q = count-grows p i n (omega arith) in omega arith) (λ e. rw e (le-refl (count (suc n) p))) (below-suc i (suc n) (omega arith))
-
--- one below the bound that has the property is one more
-pub count-below : (n d : ℕ) (p : ℕ → Bool) → d < n → T (p d) → suc (count d p) ≤ count n p
-count-below n d p l t = omega (arith, count-more d p t, count-grows p (suc d) n l)

@@ -13,8 +13,8 @@ use Rattle.gf2.specs.If.{if_then_else_}
 use Rattle.gf2.specs.Sets.{has}
 use Rattle.gf2.proofs.Tests.{not-in}
 use Rattle.flat.specs.Lists.{count, range, each}
+use Rattle.flat.proofs.Counts.{count-le, count-grows, count-below}
 use Rattle.record_format.specs.Records.{bodyAt, stripEntry, stripBody}
-use Rattle.record_format.proofs.Numbers.{count-le, count-grows, count-below}
 use Rattle.record_format.proofs.Standing.{Follow, length-each}
 use Rattle.record_format.proofs.Entries.{length-strip-entry}
 

@@ -3,8 +3,8 @@
 use mathlib.Core.Path.{_≡_, sym, ap, _∙_}
 use mathlib.Core.Bool.{Bool, true, false}
 use mathlib.Core.List.{List}
-use Prim.Native.Nat.{ℕ, _+_, _*_, _≤_, _<_}
-use native.Mathlib.Nat.{add-assoc, suc-mul, mul-le-mul-right}
+use Prim.Native.Nat.{ℕ, _+_, _*_}
+use native.Mathlib.Nat.{add-assoc}
 use native.Mathlib.Numerals.{add-one}
 use lib.ListN.{getD, replicate}
 use Rattle.gf2.specs.If.{if_then_else_}
@@ -14,10 +14,6 @@ use Rattle.flat.specs.Lists.{tabulate}
 use Rattle.flat.specs.Strips.{byteOf}
 use Rattle.flat.proofs.Lists.{zeros, getD-tabulate, tabulate-cong}
 use Rattle.strip_blocks.specs.Totals.{total}
-
--- the strip of disk i ends within the n strips
-pub strip-within : (i n l : ℕ) → i < n → i * l + l ≤ n * l
-strip-within i n l h = rw (← suc-mul i l) (mul-le-mul-right l h)
 
 -- ---- a block of w bytes after i turns: byte t is f i t
 

@@ -15,8 +15,7 @@ use Rattle.gf2.proofs.Tests.{dec, ltb-in, ltb-out, below-suc, below-or, if-true
 use Rattle.flat.specs.Lists.{tabulate, put}
 use Rattle.flat.specs.Strips.{byteOf}
 use Rattle.flat.proofs.Lists.{length-tabulate, getD-tabulate, length-put, put-before, put-new, put-after}
-use Rattle.flat.proofs.Positions.{places}
-use Rattle.strip_blocks.proofs.Summed.{strip-within}
+use Rattle.flat.proofs.Positions.{places, strip-within}
 use Rattle.strip_products.specs.Products.{parityByte, parityStrip, striped, multiplied}
 use Rattle.strip_products.proofs.Products.{products-cong}
 

@@ -15,7 +15,7 @@ use Rattle.gf2.proofs.Bits.{two-cases, bit-lt}
 use Rattle.flat.specs.Strips.{byteOf}
 use Rattle.flat.proofs.Lists.{getD-zeros}
 use Rattle.strip_blocks.specs.Totals.{total}
-use Rattle.strip_blocks.proofs.Placed.{total-cong}
+use Rattle.strip_blocks.proofs.Totals.{total-cong}
 use Rattle.strip_products.specs.Products.{Bits, products, parityByte}
 use Rattle.strip_products.specs.Theorems.{ProductOfBit, ProductsOver}
 

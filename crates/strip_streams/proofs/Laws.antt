@@ -16,8 +16,8 @@ use Rattle.flat.specs.Lists.{every, tabulate, put}
 use Rattle.flat.proofs.Lists.{length-tabulate, getD-tabulate, put-before, put-after}
 use Rattle.strip_blocks.specs.Totals.{total, xorAt}
 use Rattle.strip_blocks.proofs.Loops.{Copied, copied-more, copied-first, copied-all}
-use Rattle.strip_blocks.proofs.Placed.{total-cong}
-use Rattle.strip_streams.specs.Streams.{Inside, Apart}
+use Rattle.strip_blocks.specs.Places.{Inside, Apart}
+use Rattle.strip_blocks.proofs.Totals.{total-cong}
 
 -- ---- places filled up with pairs, which cancel
 

@@ -9,7 +9,7 @@ ghost use lib.Dec.{eqb};
 ghost use lib.ListN.{length, getD};
 ghost use Rattle.flat.specs.Lists.{every, tabulate, put};
 ghost use Rattle.strip_blocks.specs.Totals.{total, xorAt};
-ghost use Rattle.strip_streams.specs.Streams.{Inside, Apart};
+ghost use Rattle.strip_blocks.specs.Places.{Inside, Apart};
 
 mod bytes;
 

@@ -16,18 +16,9 @@ use Rattle.flat.specs.Lists.{tabulate, put}
 use Rattle.flat.specs.Strips.{byteOf}
 use Rattle.flat.specs.Repairs.{filled}
 use Rattle.flat.proofs.Lists.{length-tabulate, getD-tabulate, length-put, put-before, put-new, put-after}
+use Rattle.flat.proofs.Positions.{strips-apart}
 use Rattle.strip_blocks.proofs.Runs.{Run, run-more, run-byte, run-all}
-use Rattle.strip_blocks.proofs.Summed.{strip-within}
 use Rattle.strip_dense.proofs.Patched.{disk-of, patched-all}
-
--- the strips of two disks do not meet
-pub strips-apart : (i d l : ℕ) → i ≢ d → (i * l + l ≤ d * l) ⊎ (d * l + l ≤ i * l)
-strips-apart i d l f = go (below-or i d) (below-or d i)
-  where
-    go : (i < d) ⊎ (d ≤ i) → (d < i) ⊎ (i ≤ d) → (i * l + l ≤ d * l) ⊎ (d * l + l ≤ i * l)
-    go (inl h) k = inl (strip-within i d l h)
-    go (inr h) (inl k) = inr (strip-within d i l k)
-    go (inr h) (inr k) = absurd (f (let e : i ≡ d = omega arith in e))
 
 module _ (n l set d : ℕ) (s₀ : List ℕ) where
   -- byte t of the strip of disk d

@@ -12,10 +12,11 @@ use Rattle.flat.specs.Lists.{tabulate, put}
 use Rattle.flat.specs.Strips.{byteOf}
 use Rattle.flat.specs.Repairs.{filled}
 use Rattle.flat.proofs.Lists.{length-tabulate, getD-tabulate}
+use Rattle.flat.proofs.Positions.{strips-apart}
 use Rattle.strip_blocks.specs.Totals.{total, xorAt}
 use Rattle.strip_blocks.proofs.Placed.{place-inside}
-use Rattle.strip_streams.specs.Streams.{Inside, Apart}
-use Rattle.strips.proofs.OneStrip.{strips-apart, strip-put}
+use Rattle.strip_blocks.specs.Places.{Inside, Apart}
+use Rattle.strips.proofs.OneStrip.{strip-put}
 
 module _ (n l set : ℕ) (s at : List ℕ) (count : ℕ) where
   -- the places are in the slice, and apart from the strip of a disk that is not in the set

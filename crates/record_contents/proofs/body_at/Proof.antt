@@ -6,9 +6,8 @@ use native.Mathlib.Nat.{mul-le-mul}
 use native.Mathlib.Omega.{arith}
 use Rattle.gf2.specs.Sets.{has, size}
 use Rattle.flat.specs.Lists.{count}
+use Rattle.flat.proofs.Counts.{count-le, size-set}
 use Rattle.record_format.specs.Records.{bodyAt}
-use Rattle.record_format.proofs.Numbers.{count-le}
-use Rattle.record_contents.proofs.Counted.{size-set}
 use borrow.Author.Needs.{needs}
 use Rattle.record_contents.proofs.body_at.Statement.{statement}
 use Rattle.record_contents.proofs.body_at.Tie as tie

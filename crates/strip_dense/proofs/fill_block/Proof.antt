@@ -6,7 +6,7 @@ use Prim.Native.Nat.{ℕ, _+_, _-_, _*_, _≤_}
 use native.Mathlib.Omega.{arith}
 use lib.ListN.{getD}
 use Rattle.gf2.proofs.Tests.{true-T, false-T}
-use Rattle.strip_blocks.proofs.Summed.{strip-within}
+use Rattle.flat.proofs.Positions.{strip-within}
 use Rattle.strip_dense.proofs.Patched.{Blocks, block-none, block-skip, block-more, block-all}
 use borrow.Author.Needs.{needs}
 use Rattle.strip_dense.proofs.fill_block.Statement.{statement}

@@ -3,7 +3,7 @@
 use mathlib.Core.Path.{_≡_, sym, subst}
 use Prim.Native.Nat.{_+_, _-_, _*_, _≤_}
 use native.Mathlib.Omega.{arith}
-use Rattle.strip_blocks.proofs.Summed.{strip-within}
+use Rattle.flat.proofs.Positions.{strip-within}
 use Rattle.strip_dense.proofs.Patched.{Gathered, gathered-none, gathered-more}
 use borrow.Author.Needs.{needs}
 use Rattle.strip_dense.proofs.gather.Statement.{statement}

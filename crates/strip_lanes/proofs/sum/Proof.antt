@@ -6,7 +6,8 @@ use Prim.Native.Nat.{_+_, _-_, _*_, _%_, _≤_}
 use native.Mathlib.Omega.{arith}
 use lib.ListN.{length, getD}
 use Rattle.flat.proofs.Lists.{length-tabulate}
-use Rattle.strip_blocks.proofs.Summed.{strip-within, Summed, summed-none, summed-if, summed-all}
+use Rattle.flat.proofs.Positions.{strip-within}
+use Rattle.strip_blocks.proofs.Summed.{Summed, summed-none, summed-if, summed-all}
 use Rattle.strip_products.proofs.Products.{products-none}
 use Rattle.strip_lanes.proofs.Lanes.{laneSum, lane-sum-more}
 use borrow.Author.Needs.{needs}

@@ -3,7 +3,7 @@
 use Prim.Native.Nat.{_+_, _-_, _*_, _≤_}
 use native.Mathlib.Nat.{mul-le-mul-right}
 use native.Mathlib.Omega.{arith}
-use Rattle.strip_blocks.proofs.Summed.{strip-within}
+use Rattle.flat.proofs.Positions.{strip-within}
 use Rattle.strip_products.proofs.Made.{StripsTo, strips-none, strips-all}
 use Rattle.strip_rows.proofs.Rows.{written-more}
 use borrow.Author.Needs.{needs}

@@ -3,7 +3,7 @@
 use mathlib.Core.Path.{_≡_, subst}
 use Prim.Native.Nat.{ℕ, _+_, _-_, _*_, _≤_}
 use native.Mathlib.Omega.{arith}
-use Rattle.strip_blocks.proofs.Summed.{strip-within}
+use Rattle.flat.proofs.Positions.{strip-within}
 use Rattle.strip_rows.proofs.Rows.{Summed, summed-none, summed-more}
 use borrow.Author.Needs.{needs}
 use Rattle.strip_rows.proofs.sums.Statement.{statement}

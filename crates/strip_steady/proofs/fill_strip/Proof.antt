@@ -6,7 +6,7 @@ use native.Mathlib.Nat.{add-mul}
 use native.Mathlib.Omega.{arith}
 use lib.Dec.{leb, ltb}
 use Rattle.gf2.proofs.Tests.{true-T, and-out, leb-out}
-use Rattle.strip_blocks.proofs.Summed.{strip-within}
+use Rattle.flat.proofs.Positions.{strip-within}
 use borrow.Author.Needs.{needs}
 use Rattle.strip_steady.proofs.fill_strip.Statement.{statement}
 use Rattle.strip_steady.proofs.fill_strip.Tie as tie

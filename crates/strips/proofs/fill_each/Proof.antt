@@ -8,7 +8,7 @@ use lib.Dec.{T}
 use lib.ListN.{getD}
 use Rattle.gf2.specs.Sets.{has}
 use Rattle.gf2.proofs.Tests.{true-T, false-T}
-use Rattle.strip_blocks.proofs.Summed.{strip-within}
+use Rattle.flat.proofs.Positions.{strip-within}
 use Rattle.strips.proofs.Filling.{FilledTo, filled-none, filled-skip, filled-strip, filled-all}
 use borrow.Author.Needs.{needs}
 use Rattle.strips.proofs.fill_each.Statement.{statement}

@@ -5,7 +5,8 @@ use Prim.Native.Nat.{ℕ, _+_, _-_, _*_, _≤_, _<_}
 use native.Mathlib.Omega.{arith}
 use Rattle.gf2.specs.Sets.{over}
 use Rattle.flat.specs.Strips.{byteOf}
-use Rattle.strip_blocks.proofs.Summed.{strip-within, over-more}
+use Rattle.flat.proofs.Positions.{strip-within}
+use Rattle.strip_blocks.proofs.Summed.{over-more}
 use borrow.Author.Needs.{needs}
 use Rattle.strip_blocks.proofs.bytes.sum_1.Statement.{statement}
 use Rattle.strip_blocks.proofs.bytes.sum_1.Tie as tie

@@ -6,7 +6,8 @@ use native.Mathlib.Omega.{arith}
 use lib.ListN.{getD}
 use Rattle.gf2.specs.Sets.{has, over}
 use Rattle.flat.specs.Strips.{byteOf}
-use Rattle.strip_blocks.proofs.Summed.{strip-within, Summed, summed-none, summed-if, summed-all, over-block}
+use Rattle.flat.proofs.Positions.{strip-within}
+use Rattle.strip_blocks.proofs.Summed.{Summed, summed-none, summed-if, summed-all, over-block}
 use borrow.Author.Needs.{needs}
 use Rattle.strip_blocks.proofs.narrow.sum_16.Statement.{statement}
 use Rattle.strip_blocks.proofs.narrow.sum_16.Tie as tie

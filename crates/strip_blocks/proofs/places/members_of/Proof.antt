@@ -12,13 +12,13 @@ use Rattle.strip_blocks.proofs.places.members_of.Statement.{statement}
 use Rattle.strip_blocks.proofs.places.members_of.Tie as tie
 
 abbrev Inv-loop : tie.InvT-loop
-Inv-loop set n l at₀ count₀ i₀ at count i = (i ≤ n) × Placed set n l i at count
+Inv-loop set n l at₀ count₀ i₀ at count i = (i ≤ n) × Placed set n 32 (λ d. d * l) i at count
 
 abbrev μ-loop : tie.MeasureT-loop
 μ-loop set n l at₀ count₀ i₀ at count i = n - i
 
 loop-holds : tie.Need-loop-holds Inv-loop μ-loop
-loop-holds c = (search needs, placed-none _ _ _ _ (search needs))
+loop-holds c = (search needs, placed-none _ _ 32 _ _ (search needs))
 
 cast-has : tie.Need-cast-has Inv-loop μ-loop
 cast-has c = search needs
@@ -63,11 +63,11 @@ loop-again c =
     ⊎-elim
     (λ w. (
       omega arith,
-      rw (w .1, w .2) (placed-more (a .set) (a .n) (a .l) (lp .i) (lp .at) (lp .count) (lp .inv .1) (omega arith) (st .pre .0) (sym (m .has .ensures) ∙ w .0 .taken)),
+      rw (w .1, w .2) (placed-more (a .set) (a .n) 32 (λ d. d * a .l) (lp .i) (lp .at) (lp .count) (lp .inv .1) (omega arith) (st .pre .0) (sym (m .has .ensures) ∙ w .0 .taken)),
     ))
     (λ w. (
       omega arith,
-      rw (w .1, w .2) (placed-skip (a .set) (a .n) (a .l) (lp .i) (lp .at) (lp .count) (lp .inv .1) (sym (m .has .ensures) ∙ w .0 .left)),
+      rw (w .1, w .2) (placed-skip (a .set) (a .n) 32 (λ d. d * a .l) (lp .i) (lp .at) (lp .count) (lp .inv .1) (sym (m .has .ensures) ∙ w .0 .left)),
     ))
     (c .if1 .came)
 

@@ -5,7 +5,7 @@ use Prim.Native.Nat.{ℕ, _+_, _-_, _*_, _≤_}
 use native.Mathlib.Omega.{arith}
 use lib.ListN.{getD}
 use Rattle.strip_blocks.proofs.Runs.{Run, run-there}
-use Rattle.strip_blocks.proofs.Summed.{strip-within}
+use Rattle.flat.proofs.Positions.{strip-within}
 use Rattle.strip_products.specs.Products.{parityByte}
 use Rattle.strip_products.proofs.Products.{parity-none, parity-more}
 use Rattle.strip_products.proofs.Joined.{joined-again}

@@ -1,4 +1,4 @@
--- Where strips lie that are read as streams.
+-- Where strips lie, by a list of the places where they start.
 -- Assumes nothing.
 use mathlib.Core.Logic.{_⊎_}
 use mathlib.Core.List.{List}
