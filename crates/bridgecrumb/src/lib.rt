@@ -8,11 +8,13 @@
 ghost use mathlib.Core.Path.{_≡_};
 ghost use lib.ListN.{length};
 ghost use Rattle.flat.specs.Faults.{unlessRefused, encodeReport, encodeStripe, verdictReport, erasuresReport, erasuresVector, erasuresSlice, equationsReport, equationsSlice, rebuildReport, rebuildStripe};
+ghost use Rattle.updating.specs.Faults.{updateReport, updateStripe};
 ghost use Rattle.export_bounds.specs.Coded.{coded};
 use export_codes::encoded_code;
 use export_codes::listed_code;
 use export_codes::rebuilt_code;
 use export_codes::told_code;
+use export_codes::updated_code;
 use export_codes::verdict_code;
 
 mod cards;
@@ -27,6 +29,22 @@ pub extern "C" fn bridgecrumb_encode(card: &[u8], l: usize, stripe: &mut [u8]) -
     ensures { λ _. ⌜ now (stripe .exit) ≡ encodeStripe (now (card .entry)) l (now (stripe .entry)) ⌝ }
 {
     encoded_code(encoder::encode(card, l, stripe))
+}
+
+// The update: the strip of the data disk becomes the new one, and each byte of the parities that name the
+// disk is XORed with the old and the new data byte. A refused call writes nothing.
+#[no_mangle]
+pub extern "C" fn bridgecrumb_update(
+    card: &[u8],
+    l: usize,
+    stripe: &mut [u8],
+    disk: usize,
+    new: &[u8],
+) -> u64
+    ensures { λ r. ⌜ r ≡ coded (updateReport (now (card .entry)) l (length (now (stripe .entry))) disk (length (now (new .entry)))) ⌝ }
+    ensures { λ _. ⌜ now (stripe .exit) ≡ updateStripe (now (card .entry)) l (now (stripe .entry)) disk (now (new .entry)) ⌝ }
+{
+    updated_code(updater::update(card, l, stripe, disk, new))
 }
 
 // The verdict call: whether the loss of the set is fatal.

@@ -4,11 +4,12 @@ use lib.ListN.{length}
 use Rattle.flat.specs.Faults.{cardReport, cardWriteReport, cardWriteBuffer, encodeReport, encodeStripe, erasuresReport, erasuresSlice, equationsReport, equationsSlice, rebuildReport, rebuildStripe}
 use Rattle.record_format.specs.Faults.{recordWriteReport, recordWriteOutput, recordReport, bodyReport}
 use Rattle.peeling.specs.Faults.{trayReport, trayBytes}
+use Rattle.updating.specs.Faults.{updateReport, updateStripe}
 use Rattle.flat.proofs.Reports.{unless-not}
 use Rattle.demands.specs.Demand1.{Demand1}
 
 pub demand1 : Demand1
-unfolding cardWriteBuffer encodeStripe erasuresSlice equationsSlice rebuildStripe recordWriteOutput trayBytes
+unfolding cardWriteBuffer encodeStripe erasuresSlice equationsSlice rebuildStripe recordWriteOutput trayBytes updateStripe
 demand1 = record {
   card-writer = λ C buffer. unless-not (cardWriteReport C (length buffer)) _ buffer;
   encoder = λ card L stripe. unless-not (encodeReport card L (length stripe)) _ stripe;
@@ -17,6 +18,7 @@ demand1 = record {
   rebuilder = λ card L S stripe. unless-not (rebuildReport card L S stripe) _ stripe;
   record-writer = λ card L S stripe output. unless-not (recordWriteReport card L S (length stripe) (length output)) _ output;
   quick-repair = λ card L budget Ss tray. unless-not (trayReport card L budget Ss tray) _ tray;
+  update = λ card L stripe d new. unless-not (updateReport card L (length stripe) d (length new)) _ stripe;
   card-counts = λ card counts. unless-not (cardReport card) _ counts;
   card-columns = λ card columns. unless-not (cardReport card) _ columns;
   vector = λ card n vector. unless-not (erasuresReport card n) _ vector;

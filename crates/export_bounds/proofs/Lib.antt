@@ -2,4 +2,5 @@ pub mod ListLengths
 pub mod Values
 pub mod RecordValues
 pub mod TrayValues
+pub mod UpdateValues
 pub mod Theorems

@@ -11,6 +11,7 @@ use Rattle.export_bounds.specs.Theorems.{CodedDecodes, FaultDecodes, Rep
 use Rattle.export_bounds.proofs.Values.{card-fits, card-write-fits, encode-fits, verdict-fits, erasures-fits, alike-fits, equations-fits, rebuild-fits}
 use Rattle.export_bounds.proofs.RecordValues.{record-write-fits, record-fits, body-fits}
 use Rattle.export_bounds.proofs.TrayValues.{tray-fits}
+use Rattle.export_bounds.proofs.UpdateValues.{update-fits}
 
 pub coded-decodes : CodedDecodes
 coded-decodes r h = (omega arith, omega arith)
@@ -38,4 +39,5 @@ reports-fit = record {
   record-reader = record-fits;
   body-call = body-fits;
   quick-repair = tray-fits;
+  update = update-fits;
 }

@@ -15,6 +15,7 @@ ghost use Rattle.equations.specs.Reports.{report as toldReport};
 ghost use Rattle.encoder.specs.Reports.{report as encodedReport};
 ghost use Rattle.rebuilder.specs.Reports.{report as rebuiltReport};
 ghost use Rattle.tray.specs.Reports.{report as repairedReport};
+ghost use Rattle.updater.specs.Reports.{report as updatedReport};
 ghost use Rattle.export_bounds.specs.Coded.{coded, Fits};
 use card::CardFault;
 use card_writer::CardWritten;
@@ -24,6 +25,7 @@ use erasures::Listed;
 use likeness::Likeness;
 use rebuilder::Rebuilt;
 use tray::Repaired;
+use updater::Updated;
 use verdicts::SetVerdict;
 
 mod records;
@@ -151,5 +153,21 @@ pub fn repaired_code(repaired: Repaired) -> u64
         Repaired::StripeCount => 17,
         Repaired::OutsideSet => 8,
         Repaired::TrayLength => 7,
+    }
+}
+
+// The update's answer.
+pub fn updated_code(updated: Updated) -> u64
+    requires { ⌜ Fits (updatedReport updated) ⌝ }
+    ensures { λ r. ⌜ r ≡ coded (updatedReport updated) ⌝ }
+{
+    match updated {
+        Updated::Strips(count) => packed(0, count),
+        Updated::Card(fault) => fault_code(fault),
+        Updated::StripLength => 6,
+        Updated::NoDisk => 9,
+        Updated::ParityDisk => 18,
+        Updated::StripeLength => 7,
+        Updated::NewLength => 19,
     }
 }

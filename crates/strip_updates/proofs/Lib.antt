@@ -1,0 +1,3 @@
+pub mod Shares
+pub mod Adding
+pub mod Changing

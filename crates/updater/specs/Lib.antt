@@ -1,0 +1,3 @@
+pub mod Names
+pub mod Reports
+pub mod Theorems

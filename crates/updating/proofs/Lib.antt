@@ -1,0 +1,4 @@
+pub mod Rows
+pub mod Bytes
+pub mod Calls
+pub mod Impostors

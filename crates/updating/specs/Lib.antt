@@ -1,0 +1,4 @@
+pub mod Updating
+pub mod Faults
+pub mod Theorems
+pub mod Impostors
