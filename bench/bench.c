@@ -6,6 +6,7 @@ int main(void)
     bench_lists();
     bench_stripes();
     bench_trays();
+    bench_updates();
     bench_records();
     return 0;
 }

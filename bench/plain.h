@@ -1,4 +1,4 @@
-/* Two encoders and a peeler as one would write them in plain C. None checks the card or a length. */
+/* Two encoders, a peeler and an update as one would write them in plain C. plain_update checks the card and its arguments, the others nothing. */
 #ifndef PLAIN_H
 #define PLAIN_H
 
@@ -13,5 +13,12 @@ void multiplying_encode(struct job *job);
 /* while some lost disk is the only lost one of a check, mends the lowest such by its lowest such check: a copy of the check's
  * first other disk, then a byte loop for each further one; answers the steps, and what is left of the lost set */
 size_t plain_peel(struct job *job, uint32_t *left);
+
+/* a byte loop for each parity whose column names the data disk, by the old strip and the new one, then a copy of the new strip; answers 1 and
+ * the naming parities */
+size_t update_loops(struct job *job, int disk, const uint8_t *new_strip);
+
+/* the same with the refusals of bridgecrumb_update, in its order and with its answers */
+uint64_t plain_update(struct job *job, size_t disk, const uint8_t *new_strip, size_t new_len);
 
 #endif

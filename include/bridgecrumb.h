@@ -45,7 +45,9 @@ enum bridgecrumb_number {
     BRIDGECRUMB_CONTENTS = 14,     /* contents that are not those of a record */
     BRIDGECRUMB_FILE_LENGTH = 15,  /* a file of another length than its record */
     BRIDGECRUMB_NO_ROOM = 16,      /* an output shorter than the record, or the body of a lost disk */
-    BRIDGECRUMB_STRIPE_COUNT = 17  /* a tray of no stripes or of more than 8 */
+    BRIDGECRUMB_STRIPE_COUNT = 17, /* a tray of no stripes or of more than 8 */
+    BRIDGECRUMB_PARITY_DISK = 18,  /* a parity disk where a data disk is to be rewritten */
+    BRIDGECRUMB_NEW_LENGTH = 19    /* a new strip of another length than the strips */
 };
 
 /* Takes a card. Answers k and m in `counts`, and the m columns, then zeros, in `columns`.
@@ -100,6 +102,14 @@ uint64_t bridgecrumb_rebuild(const uint8_t *card, size_t card_len, size_t strip_
  * Refuses 1 to 5, then 6, 17, 8, 7 (a tray of another length than count stripes). */
 uint64_t bridgecrumb_quick_repair(const uint8_t *card, size_t card_len, size_t strip_len, const uint32_t *lost, size_t count, size_t budget,
                                   uint8_t *tray, size_t tray_len, uint32_t left[8]);
+
+/* Takes a card, a stripe, a data disk and its new strip, which lies outside the stripe.
+ * XORs each byte of the disk's strip, and of each parity strip whose column names the disk, with the old and the new data byte: the
+ * disk's strip becomes the new one. The other strips keep their bytes. An encoded stripe stays encoded; another is updated alike. The
+ * value is the number of these strips: 1 and the naming parities, at most m + 1.
+ * Refuses 1 to 5, then 6, 9, 18 (disk k to n - 1), 7, 19. */
+uint64_t bridgecrumb_update(const uint8_t *card, size_t card_len, size_t strip_len, uint8_t *stripe, size_t stripe_len, size_t disk,
+                            const uint8_t *new_strip, size_t new_len);
 
 /* Takes a card, a set of lost disks, a stripe and an output.
  * Writes the record at the output's front and leaves the rest; the value is the record's length.

@@ -126,6 +126,26 @@ static void trays(void)
     TRY(7, 0, quick_repair(c1, 8, 1, sets, 1, 1, lent.stripe, 6, lent.sets));
 }
 
+static void updates(void)
+{
+    static const uint8_t new_strip[] = {0x10, 0};
+    TRY(0, 4, update(c1, 8, 1, lent.stripe, 7, 0, new_strip, 1));
+    TRY(0, 1, update(c6, 4, 1, lent.stripe, 3, 1, new_strip, 1)); /* a disk in no column */
+    TRY(1, 0, update(NULL, 0, 0, NULL, 0, SIZE_MAX, NULL, 0));
+    TRY(6, 0, update(c1, 8, 0, NULL, 0, SIZE_MAX, NULL, 0));
+    TRY(6, 0, update(c3, 6, ((size_t)1 << 62) + 1, lent.stripe, 4, 0, new_strip, 1)); /* four times L is 4 in 64 bits */
+    TRY(9, 0, update(c1, 8, 1, NULL, 0, 7, NULL, 0));
+    TRY(9, 0, update(c1, 8, 1, lent.stripe, 7, (size_t)1 << 32, new_strip, 1));
+    TRY(9, 0, update(c1, 8, 1, lent.stripe, 7, SIZE_MAX, new_strip, 1));
+    TRY(18, 0, update(c1, 8, 1, NULL, 0, 4, NULL, 0));
+    TRY(18, 0, update(c1, 8, 1, lent.stripe, 7, 6, new_strip, 1));
+    TRY(7, 0, update(c1, 8, 1, NULL, 0, 0, NULL, 0));
+    TRY(7, 0, update(c1, 8, 1, lent.stripe, 6, 0, new_strip, 2));
+    TRY(7, 0, update(c1, 8, 1, lent.stripe, 8, 3, new_strip, 1));
+    TRY(19, 0, update(c1, 8, 1, lent.stripe, 7, 0, NULL, 0));
+    TRY(19, 0, update(c1, 8, 1, lent.stripe, 7, 3, new_strip, 2));
+}
+
 static void records(void)
 {
     TRY(0, 104, record_write(c1, 8, 1, 4, lent.stripe, 7, lent.out, 104));
@@ -156,6 +176,7 @@ int main(void)
     sets();
     stripes();
     trays();
+    updates();
     records();
     printf("bad input: %u calls from C, all by the documents' numbers\n", tried);
     return 0;

@@ -39,6 +39,10 @@ pub enum Error {
     NoRoom,
     /// 17: the tray has no stripe, or more than 8.
     StripeCount,
+    /// 18: the disk whose strip is to be rewritten is a parity disk.
+    ParityDisk,
+    /// 19: the new strip has another length than the strips.
+    NewLength,
 }
 
 impl Error {
@@ -66,6 +70,8 @@ impl Error {
             Error::FileLength => 15,
             Error::NoRoom => 16,
             Error::StripeCount => 17,
+            Error::ParityDisk => 18,
+            Error::NewLength => 19,
         }
     }
 
@@ -108,6 +114,8 @@ impl fmt::Display for Error {
             Error::FileLength => out.write_str("the file has another length than its record"),
             Error::NoRoom => out.write_str("the output is shorter than the record, or the disk is lost"),
             Error::StripeCount => out.write_str("the tray has no stripe or more than 8"),
+            Error::ParityDisk => out.write_str("the disk is a parity disk"),
+            Error::NewLength => out.write_str("the new strip has another length than the strips"),
         }
     }
 }

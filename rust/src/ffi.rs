@@ -51,6 +51,16 @@ extern "C" {
         tray_len: usize,
         left: *mut u32,
     ) -> u64;
+    pub fn bridgecrumb_update(
+        card: *const u8,
+        card_len: usize,
+        strip_len: usize,
+        stripe: *mut u8,
+        stripe_len: usize,
+        disk: usize,
+        new_strip: *const u8,
+        new_len: usize,
+    ) -> u64;
     pub fn bridgecrumb_record_write(
         card: *const u8,
         card_len: usize,
@@ -87,6 +97,8 @@ fn taken(answer: u64) -> Result<usize, Error> {
         15 => Error::FileLength,
         16 => Error::NoRoom,
         17 => Error::StripeCount,
+        18 => Error::ParityDisk,
+        19 => Error::NewLength,
         number => unreachable!("the archive has no refusal {number}"),
     })
 }
@@ -151,6 +163,22 @@ pub fn quick_repair(
             tray.as_mut_ptr(),
             tray.len(),
             left.as_mut_ptr(),
+        )
+    })
+}
+
+pub fn update(card: &[u8], strip_len: usize, stripe: &mut [u8], disk: usize, new_strip: &[u8]) -> Result<usize, Error> {
+    // SAFETY: each slice goes with its own length, whatever strip_len is, and `stripe` is lent to nobody else
+    taken(unsafe {
+        bridgecrumb_update(
+            card.as_ptr(),
+            card.len(),
+            strip_len,
+            stripe.as_mut_ptr(),
+            stripe.len(),
+            disk,
+            new_strip.as_ptr(),
+            new_strip.len(),
         )
     })
 }

@@ -43,4 +43,4 @@ pub use cards::{alike, read_card, write_card, Card};
 pub use error::Error;
 pub use records::{body, read_record, write_record, Record};
 pub use sets::{equations, is_fatal, minimal_erasures, Listing};
-pub use strips::{encode, quick_repair, rebuild, Repair};
+pub use strips::{encode, quick_repair, rebuild, update, Repair};

@@ -85,3 +85,27 @@ pub fn quick_repair(
     let steps = ffi::quick_repair(card, strip_len, lost, budget, tray, &mut left)?;
     Ok(Repair { steps, left })
 }
+
+/// Takes a card, the strips' length, a stripe, a data disk and its new strip; XORs each byte of the disk's strip, and
+/// of each parity strip whose column names the disk, with the old and the new data byte. So the disk's strip becomes
+/// the new one. The other strips keep their bytes. An encoded stripe stays encoded; another is updated alike. Answers
+/// the number of these strips: 1 and the naming parities, at most m + 1.
+///
+/// Refuses 1 to 5, then 6, then 9, then 18 where the disk is a parity disk, then 7 where the stripe's length is not
+/// `n * strip_len`, then 19 where the new strip's is not `strip_len`. A refused call writes nothing.
+///
+/// ```
+/// use bridgecrumb::{update, Error};
+/// let card = [4, 3, 7, 0, 11, 0, 13, 0];
+/// // C7's stripe of document 01: disk 0 is in all three columns, disk 1 in two
+/// let mut stripe = [0x11, 0x22, 0x44, 0x88, 0x77, 0xBB, 0xDD];
+/// assert_eq!(update(&card, 1, &mut stripe, 0, &[0x10]), Ok(4));
+/// assert_eq!(stripe, [0x10, 0x22, 0x44, 0x88, 0x76, 0xBA, 0xDC]);
+/// assert_eq!(update(&card, 1, &mut stripe, 1, &[0x20]), Ok(3));
+/// assert_eq!(stripe, [0x10, 0x20, 0x44, 0x88, 0x74, 0xB8, 0xDC]);
+/// assert_eq!(update(&card, 1, &mut stripe, 4, &[0x77]), Err(Error::ParityDisk));
+/// assert_eq!(update(&card, 1, &mut stripe, 0, &[]), Err(Error::NewLength));
+/// ```
+pub fn update(card: &[u8], strip_len: usize, stripe: &mut [u8], disk: usize, new_strip: &[u8]) -> Result<usize, Error> {
+    ffi::update(card, strip_len, stripe, disk, new_strip)
+}

@@ -59,6 +59,21 @@ pub fn card_of_size(choice: &mut Choice, k: usize, m: usize) -> Vec<u8> {
     card_of(k, m, &any_columns(choice, k, m))
 }
 
+/// A card in which this data disk, one of two or more, stands in the columns of the set and in no other.
+pub fn card_naming(choice: &mut Choice, k: usize, m: usize, disk: usize, naming: u32) -> Vec<u8> {
+    let mut columns = any_columns(choice, k, m);
+    for (j, column) in columns.iter_mut().enumerate() {
+        *column &= !(1 << disk);
+        if naming >> j & 1 == 1 {
+            *column |= 1 << disk;
+        } else if *column == 0 {
+            // nothing is left: the next data disk
+            *column = 1 << ((disk + 1) % k);
+        }
+    }
+    card_of(k, m, &columns)
+}
+
 /// A good card of up to so many data and parity disks; one in 16 has as many of both.
 pub fn good_card(choice: &mut Choice, most_k: usize, most_m: usize) -> Vec<u8> {
     let (k, m) = match choice.below(16) {

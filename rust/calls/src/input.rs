@@ -20,6 +20,8 @@ pub struct Input {
     pub budget: usize,
     /// A stripe, or a tray of them.
     pub stripe: Vec<u8>,
+    /// What the disk's strip is to become.
+    pub new_strip: Vec<u8>,
     pub file: Vec<u8>,
     /// How many of the file's last bytes stand on closed pages.
     pub closed: usize,

@@ -3,7 +3,7 @@
 
 use crate::input::{bytes_of, Input};
 use crate::lent::{Lent, Place};
-use crate::rows::{cards, records, sets, strips, trays};
+use crate::rows::{cards, records, sets, strips, trays, updates};
 use crate::table::{Engine, Row, TABLE};
 use std::env;
 
@@ -35,7 +35,7 @@ pub fn table() -> [Row; TABLE.len()] {
 
 /// Each under a line that says what is wrong.
 #[rustfmt::skip]
-const PLANTED: [Planted; 36] = [
+const PLANTED: [Planted; 37] = [
     // the last wrong column instead of the first
     Archive("card_read", |input, lent| last_wrong_column(input, (cards::READ.engine)(input, lent))),
     // a refusal writes k
@@ -130,6 +130,8 @@ const PLANTED: [Planted; 36] = [
     })),
     // what is left of the second stripe's set is not told
     Archive("quick_repair", |input, lent| after(trays::QUICK_REPAIR.engine, input, lent, 0, |lent, _| lent.written(1)[4..8].fill(0))),
+    // only the first naming parity is updated
+    Archive("update", |input, lent| after(updates::UPDATE.engine, input, lent, 0, |lent, _| first_parity_alone(input, lent.written(0)))),
     // another number
     Safe("encode", |input, lent| instead(strips::ENCODE.safe, input, lent, 6, true, 7)),
     // a refusal writes
@@ -221,7 +223,7 @@ fn without_offsets(input: &Input) -> Input {
     other
 }
 
-/// Reads the byte behind a buffer.
+/// Takes the last data disk out of the parities again.
 fn without_last_disk(input: &Input, stripe: &mut [u8]) {
     let (k, m, length) = (usize::from(input.card[0]), usize::from(input.card[1]), input.strip_len);
     let (data, parity) = stripe.split_at_mut(k * length);
@@ -235,6 +237,15 @@ fn without_last_disk(input: &Input, stripe: &mut [u8]) {
     }
 }
 
+/// The parities after the first that names the disk get their old bytes again.
+fn first_parity_alone(input: &Input, stripe: &mut [u8]) {
+    let columns = input.card[2..].chunks(2).map(|two| u16::from_le_bytes([two[0], two[1]]));
+    let first = columns.take_while(|column| column >> input.disk & 1 == 0).count();
+    let later = (usize::from(input.card[0]) + first + 1) * input.strip_len;
+    stripe.iter_mut().zip(&input.stripe).skip(later).for_each(|(byte, old)| *byte = *old);
+}
+
+/// Reads the byte behind a buffer.
 fn touch_behind(buffer: &[u8]) {
     // SAFETY: there is none where the buffer ends at a closed page, and that is what is to be noticed
     unsafe { std::ptr::read_volatile(buffer.as_ptr_range().end) };

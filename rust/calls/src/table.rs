@@ -3,7 +3,7 @@
 use crate::choice::Choice;
 use crate::input::{Input, Told};
 use crate::lent::{Lent, Place};
-use crate::rows::{cards, records, sets, strips, trays};
+use crate::rows::{cards, records, sets, strips, trays, updates};
 
 /// A call.
 #[derive(Clone, Copy)]
@@ -37,7 +37,7 @@ pub struct Fault {
 }
 
 /// In the header's order.
-pub const TABLE: [Row; 12] = [
+pub const TABLE: [Row; 13] = [
     cards::READ,
     cards::WRITE,
     cards::ALIKE,
@@ -47,6 +47,7 @@ pub const TABLE: [Row; 12] = [
     sets::EQUATIONS,
     strips::REBUILD,
     trays::QUICK_REPAIR,
+    updates::UPDATE,
     records::WRITE,
     records::READ,
     records::BODY,

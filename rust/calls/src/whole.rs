@@ -7,14 +7,14 @@ use crate::reference::strips::encoded;
 use crate::reference::{outline, records};
 use crate::stripes::lose;
 
-/// A stripe that has lost these disks, alone, in a record and in a tray.
+/// A stripe that has lost these disks, alone, in a record and in a tray, and a new strip.
 fn lost_of(choice: &mut Choice, card: Vec<u8>, lost: u32, strip_len: usize) -> Input {
     let code = outline(&card).expect("a code");
     let mut stripe = encoded(&code, strip_len, &choice.bytes(code.n() * strip_len));
     lose(choice, lost, strip_len, &mut stripe);
     let file = records::write(&card, strip_len, lost, &stripe, usize::MAX).expect("a record");
-    let (out_len, sets) = (file.len(), vec![lost]);
-    Input { card, strip_len, set: lost, sets, budget: 32, stripe, file, out_len, ..Input::default() }
+    let (out_len, sets, new_strip) = (file.len(), vec![lost], choice.bytes(strip_len));
+    Input { card, strip_len, set: lost, sets, budget: 32, stripe, new_strip, file, out_len, ..Input::default() }
 }
 
 /// Stripes of this length: 10 + 5 disks with three lost, whole and with the last byte of each strip spoiled; of long strips also 16 + 16 disks,
@@ -30,8 +30,8 @@ pub fn of_length(choice: &mut Choice, strip_len: usize) -> Vec<Input> {
     if strip_len > 600 {
         let dense = card_of(16, 16, &columns(16, |j| 0xffff ^ 1 << j));
         let sparse = card_of(16, 16, &columns(16, |j| 0x000f_000f << j >> 16));
-        for card in [dense, sparse] {
-            inputs.push(Input { disk: 30, ..lost_of(choice, card, 1 << 3 | 1 << 15 | 1 << 31, strip_len) });
+        for (card, disk) in [(dense, 14), (sparse, 13)] {
+            inputs.push(Input { disk, ..lost_of(choice, card, 1 << 3 | 1 << 15 | 1 << 31, strip_len) });
         }
     }
     inputs

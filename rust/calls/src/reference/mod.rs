@@ -9,6 +9,7 @@ pub mod quick;
 pub mod records;
 pub mod strips;
 pub mod trays;
+pub mod updates;
 
 use std::cell::RefCell;
 use std::collections::HashMap;

@@ -5,6 +5,7 @@ pub mod records;
 pub mod sets;
 pub mod strips;
 pub mod trays;
+pub mod updates;
 
 use crate::input::Input;
 use crate::table::Fault;
@@ -51,6 +52,12 @@ fn strip_len_faults() -> Vec<Fault> {
 fn set_faults() -> Vec<Fault> {
     let wrong = (7..32).flat_map(|disk| [1 << disk, !0 << disk, !0 >> (31 - disk)]).collect();
     ways(8, wrong, |input, &disks: &u32| input.set |= disks)
+}
+
+/// Refusal 9, of disks that C1 lacks; some have the lowest bits of one that it has.
+fn disk_faults() -> Vec<Fault> {
+    let wrong = vec![7, 8, 31, 32, 33, 255, 256, 65536, 1 << 32, 1 << 32 | 1, 1 << 63, usize::MAX];
+    ways(9, wrong, |input, &disk| input.disk = disk)
 }
 
 /// Refusal 7, of a stripe of C1 with strips of 3 bytes.

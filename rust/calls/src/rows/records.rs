@@ -1,7 +1,7 @@
 //! The calls on record files.
 
 use super::strips::{good_stripe, long};
-use super::{card_then, set_faults, strip_len_faults, stripe_faults, ways};
+use super::{card_then, disk_faults, set_faults, strip_len_faults, stripe_faults, ways};
 use crate::cards::{any_card, any_disk, any_set, disks_of, every_card};
 use crate::choice::Choice;
 use crate::input::{bytes_of, code, Input, Told};
@@ -126,8 +126,7 @@ pub const BODY: Row = Row {
     good: good_file,
     faults: || {
         let mut faults = file_faults();
-        let wrong = vec![7, 8, 31, 32, 255, 256, 1 << 32, 1 << 32 | 1, 1 << 63, usize::MAX];
-        faults.push(ways(9, wrong, |input, &disk| input.disk = disk));
+        faults.push(disk_faults());
         faults.push(ways(16, vec![2, 5], |input, &disk| input.disk = disk));
         faults
     },

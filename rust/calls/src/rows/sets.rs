@@ -1,7 +1,7 @@
 //! The calls on sets of disks.
 
 use super::cards::{large, most_k};
-use super::{card_then, set_faults, ways};
+use super::{card_then, disk_faults, set_faults, ways};
 use crate::cards::{any_card, any_disk, any_set, c1, disks_of, every_card};
 use crate::choice::Choice;
 use crate::input::{bytes_of, code, Input, Told};
@@ -109,9 +109,8 @@ pub const EQUATIONS: Row = Row {
     },
     good: || Input { card: c1(), out_len: 4, ..Input::default() },
     faults: || {
-        let wrong = vec![7, 8, 31, 32, 33, 255, 256, 65536, 1 << 32, 1 << 32 | 1, 1 << 63, usize::MAX];
         let short = ways(10 + 256 * 4, vec![0, 3], |input, &len| input.out_len = len);
-        card_then([ways(9, wrong, |input, &disk| input.disk = disk), short])
+        card_then([disk_faults(), short])
     },
     heavy: |input| large(&input.card) || many_parities(&input.card),
     engine: |input, lent| {

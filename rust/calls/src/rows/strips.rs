@@ -11,7 +11,7 @@ use crate::table::Row;
 use bridgecrumb::ffi;
 
 /// Up to so many disks every stripe is tried.
-const DISKS: usize = 6;
+pub const DISKS: usize = 6;
 
 /// An encoded stripe of C1 with strips of 3 bytes.
 pub fn good_stripe() -> Input {

@@ -4,4 +4,5 @@ mod demand3;
 mod drivers;
 mod methods;
 mod round_trips;
+mod updates;
 mod worked;

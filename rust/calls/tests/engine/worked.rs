@@ -1,4 +1,5 @@
-//! Document 01's worked codes, C1 to C12, quick repairs of document 02 and a record by hand: of the reference, and of the engine beside it.
+//! Document 01's worked codes, C1 to C12, quick repairs and updates of document 02 and a record by hand: of the reference, and of the
+//! engine beside it.
 
 use bridgecrumb::Error;
 use calls::cards::{card_of, card_of_size};
@@ -143,6 +144,30 @@ fn quick_repairs() {
     worked("quick_repair", input, 256, vec![vec![0x10, 0x22, 0x44, 0x88, 0x76, 0xBB, 0xDD], vec![0; 32]]);
 }
 
+/// Document 02, request [4], on C7's stripe: disk 0 stands in all three columns, disk 3 in the last two. C6's disk 1 stands in none.
+#[test]
+fn c7_updates() {
+    let update = |disk, stripe: [u8; 7], new: u8, value: u64, after: [u8; 7]| {
+        let (card, stripe, new_strip) = (card_of(4, 3, &[7, 11, 13]), stripe.to_vec(), vec![new]);
+        let input = Input { card, strip_len: 1, disk, stripe, new_strip, ..Input::default() };
+        worked("update", input, 256 * value, vec![after.to_vec()]);
+    };
+    let whole = [0x11, 0x22, 0x44, 0x88, 0x77, 0xBB, 0xDD];
+    update(0, whole, 0x10, 4, [0x10, 0x22, 0x44, 0x88, 0x76, 0xBA, 0xDC]);
+    update(0, whole, 0x11, 4, whole);
+    update(3, whole, 0x08, 3, [0x11, 0x22, 0x44, 0x08, 0x77, 0x3B, 0x5D]);
+    // a stripe that was never encoded is updated alike
+    update(0, [0x11, 0x22, 0x44, 0x88, 0, 0, 0xFF], 0x10, 4, [0x10, 0x22, 0x44, 0x88, 1, 1, 0xFE]);
+    let in_none = |disk, new: &[u8]| {
+        let (card, stripe, new_strip) = (card_of(2, 1, &[1]), vec![1, 2, 3, 4, 1, 2], new.to_vec());
+        Input { card, strip_len: 2, disk, stripe, new_strip, ..Input::default() }
+    };
+    worked("update", in_none(1, &[5, 6]), 256, vec![vec![1, 2, 5, 6, 1, 2]]);
+    worked("update", in_none(2, &[5, 6]), 18, Vec::new());
+    worked("update", in_none(3, &[5, 6]), 9, Vec::new());
+    worked("update", in_none(0, &[5]), 19, Vec::new());
+}
+
 /// Eight stripes of 32 disks with the longest strips, more than is lent otherwise.
 #[test]
 fn largest_tray() {
@@ -178,6 +203,8 @@ fn numbers_and_values() {
         Error::FileLength,
         Error::NoRoom,
         Error::StripeCount,
+        Error::ParityDisk,
+        Error::NewLength,
     ];
     for (error, number) in all.iter().zip(1..) {
         let value = match number {
