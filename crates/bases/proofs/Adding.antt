@@ -17,15 +17,15 @@ use Rattle.gf2.proofs.Tests.{below-or}
 use Rattle.gf2.proofs.Xor.{⊕-lt, ⊕-zero, zero-⊕}
 use Rattle.gf2.proofs.Sums.{if-has}
 use Rattle.flat.specs.Lists.{setOf, field}
-use Rattle.flat.specs.Cards.{Code, disks, column, columnsIn, codeIn}
+use Rattle.flat.specs.Cards.{Code, disks, column, codeIn}
 use Rattle.flat.specs.Checks.{row, check}
-use Rattle.flat.proofs.Lists.{getD-tabulate}
+use Rattle.flat.proofs.Cards.{column-at}
 use Rattle.flat.proofs.Quantifiers.{set-lt, bit-set, add-power}
 
 -- column j of the code whose columns stand in bytes
 column-field : (k m : ℕ) (bs : List ℕ) (j : ℕ) → j < m → column (codeIn k m bs) j ≡ field (2 * j) 2 bs
-unfolding column columnsIn
-column-field k m bs j l = getD-tabulate m (λ i. field (2 * i) 2 bs) j l
+unfolding column
+column-field k m bs = column-at m bs
 
 -- a number with one more digit at the front still has its digits
 pub add-fits : (a n : ℕ) → a < 2 ^ n → n < 32 → a + 2 ^ n < 2 ^ 32

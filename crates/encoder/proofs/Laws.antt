@@ -10,9 +10,10 @@ use Rattle.gf2.specs.Sets.{bit}
 use Rattle.gf2.proofs.Bits.{bit-lt}
 use Rattle.gf2.proofs.Tests.{below-suc, below-or}
 use Rattle.flat.specs.Lists.{tabulate, put, field}
-use Rattle.flat.specs.Cards.{columnsIn, column, disks, codeIn}
+use Rattle.flat.specs.Cards.{column, disks, codeIn}
 use Rattle.flat.specs.Strips.{encoded}
 use Rattle.flat.proofs.Lists.{length-tabulate, getD-tabulate, length-put, put-before, put-new, put-after}
+use Rattle.flat.proofs.Cards.{column-at}
 use Rattle.strip_products.specs.Products.{Bits, multiplied}
 use Rattle.strip_products.proofs.Theorems.{multiplied-encodes}
 
@@ -68,7 +69,7 @@ module _ (columns : List ℕ) (m : ℕ) where
 pub bits-encode : (k m l : ℕ) (columns bits stripe : List ℕ) → (k + m) * l ≡ length stripe
     → ((i j : ℕ) → i < k → j < m → getD bits (i * 16 + j) 0 ≡ bit (field (2 * j) 2 columns) i)
     → multiplied k l bits stripe ≡ encoded (codeIn k m columns) l stripe
-unfolding columnsIn column disks
+unfolding column disks
 bits-encode k m l columns bits stripe e h =
     multiplied-encodes (codeIn k m columns) l bits stripe (sym e)
-    (λ i j a b. h i j a b ∙ ap (λ (c : ℕ). bit c i) (sym (getD-tabulate m (λ j. field (2 * j) 2 columns) j b)))
+    (λ i j a b. h i j a b ∙ ap (λ (c : ℕ). bit c i) (sym (column-at m columns j b)))

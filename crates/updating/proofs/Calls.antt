@@ -17,11 +17,11 @@ use Rattle.flat.proofs.Lists.{length-put}
 use Rattle.flat.proofs.Reports.{passed-number, unless-number, unless-accepted, with-accepted, with-card, with-number}
 use Rattle.flat.proofs.Cards.{card-accepted}
 use Rattle.flat.proofs.Positions.{strip-within}
-use Rattle.updating.specs.Updating.{change, updated, naming}
+use Rattle.updating.specs.Updating.{updated, naming}
 use Rattle.updating.specs.Faults.{updateTests, updateReport, updateStripe}
 use Rattle.updating.specs.Theorems.{UpdateAccepted}
 use Rattle.updating.proofs.Rows.{row-names}
-use Rattle.updating.proofs.Bytes.{update-length, updated-byte, update-byte, changes, afresh}
+use Rattle.updating.proofs.Bytes.{update-length, update-byte, changes, afresh, update-xors}
 
 -- what the tests of an accepted call tell
 record Passed (card : List ℕ) (L n d p : ℕ) : Type 0 where
@@ -61,7 +61,7 @@ encode-is card L stripe n ok e =
     (with-accepted card (codeOf card .k ∷ codeOf card .m ∷ []) (λ D. encodeTests D L (length stripe)) (card-accepted card n) ∙ simp (ok, eq-eqb _ _ e))
 
 pub update-accepted : UpdateAccepted
-unfolding updateStripe disks change
+unfolding updateStripe disks
 update-accepted card L stripe d new h =
     let q = call-passed card L (length stripe) d (length new) h in
     let C = codeOf card in
@@ -74,7 +74,7 @@ update-accepted card L stripe d new h =
       answer = q .answered;
       most = row-names C d l .3;
       long = ap length is ∙ update-length C L d new stripe;
-      xored = λ i t m k. ap (λ (s : List ℕ). byteOf L s t i) is ∙ updated-byte C L d new stripe e t i k m;
+      xored = λ i t m k. ap (λ (s : List ℕ). byteOf L s t i) is ∙ update-xors C L d i t new stripe e m k;
       written = λ t m. ap (λ (s : List ℕ). byteOf L s t d) is ∙ update-byte C L d new stripe e l t m;
       changes = λ i t m k. rw is (changes C L d new stripe e i t m k);
       afresh = λ fixed.

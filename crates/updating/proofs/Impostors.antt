@@ -1,11 +1,10 @@
 -- The wrong updates computed beside the request's.
 -- Assumes nothing.
 use mathlib.Core.Path.{refl}
-use Rattle.gf2.specs.Sets.{_⊕_}
 use Rattle.flat.specs.Lists.{put}
 use Rattle.flat.specs.Strips.{encoded}
 use Rattle.updating.specs.Updating.{change, updated}
-use Rattle.updating.specs.Impostors.{NotEncodedAfresh, OldStripRead, OldByteToo, EachNamingParity}
+use Rattle.updating.specs.Impostors.{NotEncodedAfresh, OldStripRead, EachNamingParity}
 
 pub not-encoded-afresh : NotEncodedAfresh
 unfolding updated change encoded put
@@ -14,10 +13,6 @@ not-encoded-afresh = (refl, refl)
 pub old-strip-read : OldStripRead
 unfolding updated change put
 old-strip-read = (refl, refl)
-
-pub old-byte-too : OldByteToo
-unfolding updated change _⊕_
-old-byte-too = (refl, refl)
 
 pub each-naming-parity : EachNamingParity
 unfolding updated change

@@ -4,7 +4,6 @@ use mathlib.Core.Path.{_≡_}
 use mathlib.Core.List.{List, [], _∷_}
 use Prim.Native.Nat.{ℕ}
 use lib.ListN.{getD}
-use Rattle.gf2.specs.Sets.{_⊕_}
 use Rattle.flat.specs.Lists.{put}
 use Rattle.flat.specs.Cards.{Code, code}
 use Rattle.flat.specs.Strips.{encoded}
@@ -31,10 +30,6 @@ NotEncodedAfresh = (getD after 4 0 ≡ 70) × (getD (encoded C1 1 (put spoiled 0
 -- Where the new strip is written first, and then taken for the old one, parity disk 4 keeps its byte.
 abbrev pub OldStripRead : Type 0
 OldStripRead = (getD after 4 0 ≡ 70) × (getD (updated C1 1 0 strip (put spoiled 0 strip)) 4 0 ≡ 118)
-
--- XORed with the new byte alone it gets another one.
-abbrev pub OldByteToo : Type 0
-OldByteToo = (getD after 4 0 ≡ 70) × (118 ⊕ 33 ≡ 87)
 
 -- Disk 0 is in three columns: where the first parity alone changes, disks 5 and 6 keep 187 and 221.
 abbrev pub EachNamingParity : Type 0
