@@ -23,4 +23,12 @@ static inline uint8_t *job_strip(const struct job *job, int disk)
     return job->stripe + disk * job->strip_len;
 }
 
+/* the job's stripe is that of number s among the stripes that stand in these bytes */
+static inline void job_take(struct job *job, size_t strip_len, uint8_t *bytes, size_t s)
+{
+    job->strip_len = strip_len;
+    job->stripe_len = (size_t)(job->card[0] + job->card[1]) * strip_len;
+    job->stripe = bytes + s * job->stripe_len;
+}
+
 #endif

@@ -112,10 +112,8 @@ static void time_writers(const struct job *job, double best[WRITERS])
 
 static void start_job(struct job *job, size_t strip_len, uint32_t lost)
 {
-    job->strip_len = strip_len;
+    job_take(job, strip_len, stripe, 0);
     job->lost = lost;
-    job->stripe = stripe;
-    job->stripe_len = (size_t)(job->card[0] + job->card[1]) * strip_len;
     length = plain_write(job, right);
 }
 

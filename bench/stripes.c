@@ -116,9 +116,7 @@ static void check(struct job *job, const char *name, contestant shown, uint32_t 
 
 static void encoded_stripe(struct job *job, size_t strip_len)
 {
-    job->strip_len = strip_len;
-    job->stripe = stripe;
-    job->stripe_len = (size_t)(job->card[0] + job->card[1]) * strip_len;
+    job_take(job, strip_len, stripe, 0);
     fill(stripe, job->stripe_len);
     plain_encode(job);
     memcpy(right, stripe, job->stripe_len);

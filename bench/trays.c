@@ -88,17 +88,14 @@ static const struct {
 /* eight encoded stripes; stripe s loses the disks of the set, each s disks further */
 static void encoded_tray(const struct job *card, size_t strip_len, uint32_t set)
 {
-    size_t stripe_len = (card->card[0] + card->card[1]) * strip_len;
-    tray_len = STRIPES * stripe_len;
-    fill(tray, tray_len);
     for (int s = 0; s < STRIPES; s++) {
         jobs[s] = *card;
-        jobs[s].strip_len = strip_len;
-        jobs[s].stripe = tray + s * stripe_len;
-        jobs[s].stripe_len = stripe_len;
+        job_take(&jobs[s], strip_len, tray, s);
         jobs[s].lost = lost[s] = set << s;
+        fill(jobs[s].stripe, jobs[s].stripe_len);
         plain_encode(&jobs[s]);
     }
+    tray_len = STRIPES * jobs[0].stripe_len;
     memcpy(right, tray, tray_len);
 }
 

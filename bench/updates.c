@@ -87,15 +87,13 @@ static const struct {
 /* the stripes, each encoded with the second new strip, so that the first one changes them */
 static void encoded_stripes(const struct job *card, size_t strip_len)
 {
-    size_t stripe_len = (card->card[0] + card->card[1]) * strip_len;
     count = strip_len <= 4096 ? STRIPES : 1;
-    fill(stripes, stripe_len);
     for (size_t s = 0; s < count; s++) {
         jobs[s] = *card;
-        jobs[s].strip_len = strip_len;
-        jobs[s].stripe = stripes + s * stripe_len;
-        jobs[s].stripe_len = stripe_len;
+        job_take(&jobs[s], strip_len, stripes, s);
     }
+    size_t stripe_len = jobs[0].stripe_len;
+    fill(stripes, stripe_len);
     for (int v = 0; v < 2; v++) {
         fill(new_strips[v], strip_len);
         memcpy(job_strip(jobs, DISK), new_strips[v], strip_len);
