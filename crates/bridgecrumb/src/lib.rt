@@ -9,9 +9,11 @@ ghost use mathlib.Core.Path.{_≡_};
 ghost use lib.ListN.{length};
 ghost use Rattle.flat.specs.Faults.{unlessRefused, encodeReport, encodeStripe, verdictReport, erasuresReport, erasuresVector, erasuresSlice, equationsReport, equationsSlice, rebuildReport, rebuildStripe};
 ghost use Rattle.updating.specs.Faults.{updateReport, updateStripe};
+ghost use Rattle.partial_rebuilding.specs.Faults.{partialReport, partialStripe};
 ghost use Rattle.export_bounds.specs.Coded.{coded};
 use export_codes::encoded_code;
 use export_codes::listed_code;
+use export_codes::partly_rebuilt_code;
 use export_codes::rebuilt_code;
 use export_codes::told_code;
 use export_codes::updated_code;
@@ -47,7 +49,7 @@ pub extern "C" fn bridgecrumb_update(
     updated_code(updater::update(card, l, stripe, disk, new))
 }
 
-// The verdict call: whether the loss of the set is fatal.
+// The verdict call: the disks of the set that the survivors don't determine. Its loss is fatal where there is one.
 #[no_mangle]
 pub extern "C" fn bridgecrumb_verdict(card: &[u8], set: u32) -> u64
     ensures { λ r. ⌜ r ≡ coded (verdictReport (now (card .entry)) set) ⌝ }
@@ -92,4 +94,20 @@ pub extern "C" fn bridgecrumb_rebuild(card: &[u8], l: usize, lost: u32, stripe: 
     ensures { λ _. ⌜ now (stripe .exit) ≡ rebuildStripe (now (card .entry)) l lost (now (stripe .entry)) ⌝ }
 {
     rebuilt_code(rebuilder::rebuild(card, l, lost, stripe))
+}
+
+// A partial rebuild: the lost strips that the survivors determine become those of any content that agrees with
+// them, and the other strips keep their bytes. The value is the set of lost disks that they don't determine.
+// A refused call writes nothing.
+#[no_mangle]
+pub extern "C" fn bridgecrumb_partial_rebuild(
+    card: &[u8],
+    l: usize,
+    lost: u32,
+    stripe: &mut [u8],
+) -> u64
+    ensures { λ r. ⌜ r ≡ coded (partialReport (now (card .entry)) l lost (now (stripe .entry))) ⌝ }
+    ensures { λ _. ⌜ now (stripe .exit) ≡ partialStripe (now (card .entry)) l lost (now (stripe .entry)) ⌝ }
+{
+    partly_rebuilt_code(partial_rebuilder::rebuild(card, l, lost, stripe))
 }

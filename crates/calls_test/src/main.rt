@@ -1,4 +1,4 @@
-// Tests of the calls that judge and list: the listing of a card, the verdict on a set and the equations of a disk, for document 01's
+// Tests of the calls that judge and list: the listing of a card, the undetermined disks of a set and the equations of a disk, for document 01's
 // worked codes, the chain code of document 002, IV-B, a dense code, and each refusal. What it must write was derived by
 // tests/calls_test.py.
 use card::CardFault;
@@ -50,8 +50,10 @@ fn list(card: &[u8]) {
 // The verdict on a set.
 fn judge(card: &[u8], set: u32) {
     match verdicts::verdict(card, set) {
-        SetVerdict::Fatal => say(b"fatal"),
-        SetVerdict::Recoverable => say(b"recoverable"),
+        SetVerdict::Undetermined(undetermined) => say_number(
+            b"undetermined ",
+            undetermined as usize,
+        ),
         SetVerdict::OutsideSet => say(b"refused 8"),
         SetVerdict::Card(fault) => say_fault(fault),
     }
@@ -125,7 +127,7 @@ fn listings() {
     list(&DENSE);
 }
 
-// Sets of either kind, and one with a disk that is none of the code's.
+// Sets that are not fatal, sets of undetermined disks alone, sets with determined disks too, and one with a disk that is none of the code's.
 fn verdicts() {
     judge(&C3, 15);
     judge(&C3, 3);
@@ -137,6 +139,8 @@ fn verdicts() {
     judge(&DENSE, 0xffffffff);
     judge(&DENSE, 0xffff0000);
     judge(&DENSE, 0x8000ffff);
+    judge(&C1, 15);
+    judge(&C6, 6);
 }
 
 // Every disk of three codes, and disks 3 to 5 of C6, which has none of them.

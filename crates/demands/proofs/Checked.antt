@@ -1,13 +1,12 @@
 -- With nothing lost, a content agrees with the whole stripe: it is the stripe's own data strips, and the stripe is their encoding.
 -- Assumes nothing.
 use mathlib.Core.Path.{_≡_, refl, sym, ap, _∙_}
-use mathlib.Core.Bool.{Bool, true, false}
 use mathlib.Core.Logic.{⊎-elim}
 use mathlib.Core.List.{List, [], _∷_}
 use Prim.Native.Nat.{ℕ, _*_, _/_, _%_, _≤_, _<_}
 use native.Mathlib.Nat.{add-mul}
 use native.Mathlib.Omega.{arith}
-use lib.Dec.{T, eqb}
+use lib.Dec.{T}
 use lib.ListN.{length, getD, take}
 use lib.Pow.{pow-pos}
 use lib.Seq.{ext-getD, length-take-le}
@@ -21,8 +20,9 @@ use Rattle.flat.specs.Cards.{Code, codeOf, disks, setOk}
 use Rattle.flat.specs.Strips.{lengthOk, byteOf, given, encoded}
 use Rattle.flat.specs.Erasures.{fatal}
 use Rattle.flat.specs.Rebuilding.{Agreeing, restored, agreeing}
-use Rattle.flat.specs.Faults.{Report, accepted, refused, unlessRefused, cardReport, rebuildReport, rebuildStripe}
+use Rattle.flat.specs.Faults.{Report, accepted, refused, cardReport, rebuildReport, rebuildStripe}
 use Rattle.flat.specs.Spans.{codeword}
+use Rattle.flat.proofs.Reports.{unless-either}
 use Rattle.flat.proofs.Lists.{length-tabulate, getD-tabulate}
 use Rattle.flat.proofs.Words.{holds-data, holds-cong, codeword-nonzero}
 use Rattle.flat.proofs.Fatal.{fatal-out}
@@ -99,12 +99,8 @@ module _ (card : List ℕ) (k m L : ℕ) (stripe : List ℕ) (ok : cardReport ca
       ∙ if-false (has 0 (p / L)) (getD (given (codeOf card) L content) p 0) (getD stripe p 0) (no-disk (p / L)))
 
   kept : rebuildStripe card L 0 stripe ≡ stripe
-  unfolding rebuildStripe unlessRefused
-  kept = go (eqb (rebuildReport card L 0 stripe .number) 0)
-    where
-      go : (t : Bool) → (if t then restored (codeOf card) L 0 stripe (agreeing (codeOf card) L 0 stripe) else stripe) ≡ stripe
-      go true = same (agreeing (codeOf card) L 0 stripe)
-      go false = refl
+  unfolding rebuildStripe
+  kept = unless-either (λ (s : List ℕ). s ≡ stripe) (rebuildReport card L 0 stripe) _ stripe (same (agreeing (codeOf card) L 0 stripe)) refl
 
 pub nothing-lost : NothingLost
 unfolding size

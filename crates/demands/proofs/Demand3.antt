@@ -2,30 +2,31 @@
 -- Assumes nothing.
 use mathlib.Core.Path.{_≡_, sym, ap, _∙_, subst}
 use mathlib.Core.Bool.{Bool, true, false}
-use mathlib.Core.Logic.{inl, inr, _↔_, ⊎-elim}
+use mathlib.Core.Logic.{_↔_}
 use mathlib.Core.List.{List, [], _∷_}
 use Prim.Native.Nat.{ℕ, _*_, _^_, _≤_, _<_}
 use native.Mathlib.Omega.{arith}
 use lib.Dec.{T}
 use lib.ListN.{length, getD}
 use Rattle.gf2.specs.If.{if_then_else_}
-use Rattle.gf2.specs.Sets.{size}
+use Rattle.gf2.specs.Sets.{size, _⊆_}
 use Rattle.gf2.proofs.Tests.{if-true, if-false}
 use Rattle.flat.specs.Lists.{member}
 use Rattle.flat.specs.Cards.{Code, codeOf, disks, setOk}
-use Rattle.flat.specs.Strips.{lengthOk, byteOf, given}
-use Rattle.flat.specs.Erasures.{fatal, minimalErasure, erasures}
+use Rattle.flat.specs.Strips.{lengthOk, byteOf}
+use Rattle.flat.specs.Erasures.{fatal, undeterminedSet, minimalErasure, erasures}
 use Rattle.flat.specs.Equations.{minimalEquation, equations}
 use Rattle.flat.specs.Rebuilding.{Agreeing, agreeing}
 use Rattle.flat.specs.Faults.{Report, accepted, refused, cardReport, erasuresReport, equationsReport, survivorsReport, disksReport, rebuildReport}
 use Rattle.demands.specs.Demand3.{Demand3, OneVerdict, RightList, RightEquations, Restored, RightRebuild, listed, told}
 use Rattle.flat.proofs.Order.{sorted-at}
 use Rattle.flat.proofs.Duality.{fatal-untold}
+use Rattle.flat.proofs.Undetermined.{fatal-undetermined, none-undetermined}
 use Rattle.flat.proofs.ErasuresListed as listing
 use Rattle.flat.proofs.EquationsListed as equated
-use Rattle.flat.proofs.Verdicts.{yes-no, verdict-is, erasures-written, equations-written, verdict-listed, equation-listed, long-slices-accepted}
-use Rattle.flat.proofs.Agreement.{only-content, some-agreeing, first-agreeing, agreeing-cases}
-use Rattle.flat.proofs.Rebuilds.{rebuild-is, restored-lost, restored-kept, stripe-first}
+use Rattle.flat.proofs.Verdicts.{verdict-is, erasures-written, equations-written, equation-listed, long-slices-accepted}
+use Rattle.flat.proofs.Agreement.{only-content}
+use Rattle.flat.proofs.Rebuilds.{restored-agreed, restored-others, some-accepted, none-refused, refused-or, rebuild-is, rebuilt-stripe}
 
 -- ---- the two lists
 
@@ -38,7 +39,7 @@ module _ (card : List ℕ) (k m : ℕ) (ok : cardReport card ≡ accepted (k ∷
     counted = long-slices-accepted card (length slice) 0 k m ok .0 fits
 
     -- the list that is written is the list
-    written : listed card slice ≡ erasures C
+    pub written : listed card slice ≡ erasures C
     written = erasures-written card k m ok slice (length (erasures C)) counted
 
     right-list : RightList card slice
@@ -52,7 +53,7 @@ module _ (card : List ℕ) (k m : ℕ) (ok : cardReport card ≡ accepted (k ∷
         }
 
   module _ (d : ℕ) (l : d < disks C) (slice : List ℕ) (fits : length (equations C d) ≤ length slice) where
-    told-counted : equationsReport card d (length slice) ≡ accepted (length (equations C d) ∷ [])
+    pub told-counted : equationsReport card d (length slice) ≡ accepted (length (equations C d) ∷ [])
     told-counted = long-slices-accepted card (length slice) d k m ok .1 l fits
 
     told-written : told card d slice ≡ equations C d
@@ -86,18 +87,22 @@ module _ (card : List ℕ) (k m S L : ℕ) (stripe : List ℕ) (ok : cardReport 
   unfolding disksReport
   report = rebuild-is card (k ∷ m ∷ []) L S stripe ok len set whole
 
-  one-verdict : (slice : List ℕ) (slices : ℕ → List ℕ) → length (erasures (codeOf card)) ≤ length slice
+  pub one-verdict : (slice : List ℕ) (slices : ℕ → List ℕ) → length (erasures (codeOf card)) ≤ length slice
       → ((d : ℕ) → d < disks (codeOf card) → length (equations (codeOf card) d) ≤ length (slices d)) → OneVerdict card S L stripe slice slices
   one-verdict slice slices fits fit =
       let D = codeOf card in
       let v = verdict-is card k m ok S set in
-      let y = yes-no (fatal D S) in
-      let e = verdict-listed card slice S k m (length (erasures D)) ok set (counted card k m ok slice fits) in
+      let f = fatal-undetermined D S in
+      let w = written card k m ok slice fits in
+      let e = listing.fatal-listed D S in
       let u = fatal-untold D S in
       let q : (d : ℕ) → d < disks D → _ = λ d l. equation-listed card (slices d) S d k m (length (equations D d)) ok (told-counted card k m ok d l (slices d) (fit d l)) in
       record {
-        verdict = (λ t. v ∙ y .1 t, λ r. y .0 (sym v ∙ r));
-        entry = (λ t. e .0 (v ∙ y .1 t), λ r. y .0 (sym v ∙ e .1 r));
+        verdict = (
+          λ t. (undeterminedSet D S, f .0 t, v),
+          λ (U, n, r). f .1 (λ z. n (ap (λ (x : Report). getD (x .values) 0 0) (sym r ∙ v) ∙ z)),
+        );
+        entry = subst (λ (l : List ℕ). T (fatal D S) ↔ ((R : ℕ) × T (member R l) × T (R ⊆ S))) (sym w) e;
         untold = (
           λ t. let r = u .0 t in (r .0, r .1, r .2, λ x. r .3 (q (r .0) (r .1) .1 x)),
           λ r. u .1 (r .0, r .1, r .2, λ x. r .3 (q (r .0) (r .1) .0 x)),
@@ -121,35 +126,28 @@ module _ (card : List ℕ) (k m S L : ℕ) (stripe : List ℕ) (ok : cardReport 
     unfolding survivorsReport
     some-left c cs e = left ∙ ap (survivorsReport S) e
 
-    same : (a b : List ℕ) → Agreeing (codeOf card) L S stripe a → Agreeing (codeOf card) L S stripe b → a ≡ b
-    same a b p q = only-content (codeOf card) L S stripe a b n (p .strips) (q .strips) (p .agree) (q .agree)
+    accepted-for : (content : List ℕ) → Agreeing (codeOf card) L S stripe content → rebuildReport card L S stripe ≡ accepted (size S ∷ [])
+    accepted-for = some-accepted (codeOf card) L S stripe (rebuildReport card L S stripe) (size S ∷ []) none-left some-left
 
-    restored-right : (content c : List ℕ) (cs : List (List ℕ)) → Agreeing (codeOf card) L S stripe content
-        → agreeing (codeOf card) L S stripe ≡ c ∷ cs → Restored card S L stripe content
-    restored-right content c cs a e =
+    restored-right : (content : List ℕ) → Agreeing (codeOf card) L S stripe content → Restored card S L stripe content
+    restored-right content a =
         let D = codeOf card in
-        let q : c ≡ content = same c content (first-agreeing D L S stripe c cs e) a in
-        let s = stripe-first card L S stripe c cs (ap (λ (r : Report). r .number) (some-left c cs e)) e in
+        let s = rebuilt-stripe card L S stripe (ap (λ (r : Report). r .number) (accepted-for content a)) in
         record {
-          answer = some-left c cs e;
-          only = λ other b. same other content b a;
-          lost = λ i t l h g. ap (λ (x : List ℕ). byteOf L x t i) s ∙ restored-lost D L S stripe c cs t i h l g
-              ∙ ap (λ (x : List ℕ). byteOf L (given D L x) t i) q;
-          others = λ i t l h g. ap (λ (x : List ℕ). byteOf L x t i) s ∙ restored-kept D L S stripe c cs t i h l g;
+          answer = accepted-for content a;
+          only = λ other b. only-content D L S stripe other content n (b .strips) (a .strips) (b .agree) (a .agree);
+          lost = λ i t l h g. ap (λ (x : List ℕ). byteOf L x t i) s ∙ restored-agreed D L S S stripe i t l h content a g (none-undetermined D S n i);
+          others = λ i t l h g. ap (λ (x : List ℕ). byteOf L x t i) s ∙ restored-others D L S S stripe i t l h (agreeing D L S stripe) g;
         }
 
     pub right-rebuild : RightRebuild card S L stripe
     right-rebuild =
         let D = codeOf card in
-        let cases = agreeing-cases D L S stripe in
+        let r = rebuildReport card L S stripe in
         record {
-          none = (
-            λ r content a. ⊎-elim (some-agreeing D L S stripe content a)
-                (λ (c, cs, e). let z : _≡_ {A = ℕ} 0 12 = ap (λ (x : Report). x .number) (sym (some-left c cs e) ∙ r) in omega arith) cases,
-            λ f. ⊎-elim none-left (λ (c, cs, e). absurd (f c (first-agreeing D L S stripe c cs e))) cases,
-          );
-          some = λ content a. ⊎-elim (λ e. absurd (some-agreeing D L S stripe content a e)) (λ (c, cs, e). restored-right content c cs a e) cases;
-          decided = ⊎-elim (λ e. inl (none-left e)) (λ (c, cs, e). inr (c, first-agreeing D L S stripe c cs e)) cases;
+          none = none-refused D L S stripe r (size S ∷ []) none-left some-left;
+          some = restored-right;
+          decided = refused-or D L S stripe r (size S ∷ []) none-left some-left;
         }
 
 pub demand3 : Demand3

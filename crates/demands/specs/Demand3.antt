@@ -2,7 +2,7 @@
 -- The proof is `demand3` of proofs/Demand3.antt.
 -- Assumes nothing.
 use mathlib.Core.Path.{_≡_}
-use mathlib.Core.Logic.{_⊎_, _↔_}
+use mathlib.Core.Logic.{_⊎_, _≢_, _↔_}
 use mathlib.Core.List.{List, [], _∷_}
 use Prim.Native.Nat.{ℕ, _*_, _^_, _≤_, _<_}
 use lib.Dec.{T}
@@ -23,9 +23,9 @@ listed card slice = take (length (erasures (codeOf card))) (erasuresSlice card s
 abbrev pub told : List ℕ → ℕ → List ℕ → List ℕ
 told card d slice = take (length (equations (codeOf card) d)) (equationsSlice card d slice)
 
--- the five that agree: the first is that the set is fatal
+-- the five that agree: the first is that the set is fatal; the verdict call says so by a set that is not empty (document 02, request [5])
 pub record OneVerdict (card : List ℕ) (S L : ℕ) (stripe slice : List ℕ) (slices : ℕ → List ℕ) : Type 0 where
-  pub verdict : T (fatal (codeOf card) S) ↔ (verdictReport card S ≡ accepted (1 ∷ []))
+  pub verdict : T (fatal (codeOf card) S) ↔ ((U : ℕ) × (U ≢ 0) × (verdictReport card S ≡ accepted (U ∷ [])))
   pub entry : T (fatal (codeOf card) S) ↔ ((R : ℕ) × T (member R (listed card slice)) × T (R ⊆ S))
   pub untold : T (fatal (codeOf card) S)
       ↔ ((d : ℕ) × (d < disks (codeOf card)) × T (has S d)

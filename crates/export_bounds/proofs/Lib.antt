@@ -3,4 +3,5 @@ pub mod Values
 pub mod RecordValues
 pub mod TrayValues
 pub mod UpdateValues
+pub mod PartialValues
 pub mod Theorems

@@ -12,6 +12,7 @@ use Rattle.export_bounds.proofs.Values.{card-fits, card-write-fits, enc
 use Rattle.export_bounds.proofs.RecordValues.{record-write-fits, record-fits, body-fits}
 use Rattle.export_bounds.proofs.TrayValues.{tray-fits}
 use Rattle.export_bounds.proofs.UpdateValues.{update-fits}
+use Rattle.export_bounds.proofs.PartialValues.{partial-fits}
 
 pub coded-decodes : CodedDecodes
 coded-decodes r h = (omega arith, omega arith)
@@ -40,4 +41,5 @@ reports-fit = record {
   body-call = body-fits;
   quick-repair = tray-fits;
   update = update-fits;
+  partial-rebuild = partial-fits;
 }

@@ -1,5 +1,5 @@
 -- The reports of the calls on cards, sets and stripes fit into one number: each test refuses by a small number, and what is named last is a
--- column's number, a yes or no, the count of a list or that of lost disks.
+-- column's number, a set of disks, a yes or no, the count of a list or that of lost disks.
 -- Assumes nothing.
 use mathlib.Core.Path.{_≡_, refl}
 use mathlib.Core.Bool.{Bool, true, false, not}
@@ -12,15 +12,17 @@ use lib.ListN.{length}
 use lib.Pow.{pow-mono}
 use Rattle.gf2.specs.If.{if_then_else_}
 use Rattle.gf2.specs.Sets.{size}
+use Rattle.gf2.proofs.Subsets.{⊆-le}
 use Rattle.gf2.proofs.Sizes.{size-lt}
 use Rattle.flat.specs.Cards.{Code, disks, setOk, countOk, firstBad, codeOf, cardLength}
 use Rattle.flat.specs.Strips.{lengthOk}
-use Rattle.flat.specs.Erasures.{fatal, erasures}
+use Rattle.flat.specs.Erasures.{fatal, undeterminedSet, erasures}
 use Rattle.flat.specs.Equations.{equations}
 use Rattle.flat.specs.Rebuilding.{agreeing}
 use Rattle.flat.specs.Alike.{alike}
 use Rattle.flat.specs.Faults.{Report, accepted, refused, yesNo, unlessRefused, codeReport, cardReport, withCard, cardWriteReport, alikeReport, encodeReport, verdictReport, listReport, erasuresReport, equationsReport, survivorsReport, rebuildReport, encodeTests, verdictTests, equationsTests, stripeTests, disksReport, rebuildTests}
 use Rattle.flat.proofs.Cards.{accepted-card, card-accepted, count-in}
+use Rattle.flat.proofs.Undetermined.{undetermined-lost}
 use Rattle.export_bounds.specs.Coded.{Fits}
 use Rattle.export_bounds.proofs.ListLengths.{erasures-few, equations-few}
 
@@ -76,7 +78,7 @@ with-fits card answer h = pick (eqb (cardReport card .number) 0) _ _ (λ e. h (f
         let s = accepted-card card (codeOf card .k) (codeOf card .m) (card-accepted card e) .sound in
         (count-in (codeOf card .k) (s .k-ok) .1, count-in (codeOf card .m) (s .m-ok) .1)
 
--- ---- the encoder, and answers of yes or no
+-- ---- the encoder
 
 pub encode-fits : (card : List ℕ) (L n : ℕ) → Fits (encodeReport card L n)
 unfolding encodeReport encodeTests
@@ -84,16 +86,24 @@ encode-fits card L n =
     with-fits card (λ C. encodeTests C L n)
     (λ _. test (lengthOk L) 6 _ (omega arith) (λ _. test (eqb n (disks (codeOf card) * L)) 7 _ (omega arith) (λ _. plain 0 (omega arith))))
 
-yes-no : (b : Bool) → Fits (accepted (yesNo b ∷ []))
-unfolding yesNo
-yes-no true = named 0 1 [] (omega arith) (omega arith)
-yes-no false = named 0 0 [] (omega arith) (omega arith)
+-- ---- sets of the code's disks, and answers of yes or no
+
+-- the undetermined disks are lost ones: a set of at most 32 disks
+pub undetermined-fits : (C : Code) (S : ℕ) → (C .k ≤ 16) × (C .m ≤ 16) → setOk C S ≡ true → Fits (accepted (undeterminedSet C S ∷ []))
+unfolding setOk disks
+undetermined-fits C S h e =
+    named 0 (undeterminedSet C S) [] (omega arith)
+    (omega (arith, ⊆-le (undeterminedSet C S) S (undetermined-lost C S), ltb-true S (2 ^ disks C) e, pow-mono {i = disks C} {j = 32} (omega (arith, h))))
 
 pub verdict-fits : (card : List ℕ) (S : ℕ) → Fits (verdictReport card S)
 unfolding verdictReport verdictTests
 verdict-fits card S =
-    with-fits card (λ C. verdictTests C S)
-    (λ _. test (setOk (codeOf card) S) 8 _ (omega arith) (λ _. yes-no (fatal (codeOf card) S)))
+    with-fits card (λ C. verdictTests C S) (λ h. test (setOk (codeOf card) S) 8 _ (omega arith) (undetermined-fits (codeOf card) S h))
+
+yes-no : (b : Bool) → Fits (accepted (yesNo b ∷ []))
+unfolding yesNo
+yes-no true = named 0 1 [] (omega arith) (omega arith)
+yes-no false = named 0 0 [] (omega arith) (omega arith)
 
 pub alike-fits : (first second : List ℕ) → Fits (alikeReport first second)
 unfolding alikeReport

@@ -11,6 +11,7 @@ use Rattle.flat.specs.Faults.{Report, unlessRefused, cardReport, cardWriteRepor
 use Rattle.record_format.specs.Faults.{recordWriteReport, recordReport, bodyReport}
 use Rattle.peeling.specs.Faults.{trayReport}
 use Rattle.updating.specs.Faults.{updateReport}
+use Rattle.partial_rebuilding.specs.Faults.{partialReport}
 use Rattle.export_bounds.specs.Coded.{value, coded, codedFault, Fits}
 
 -- The one number tells both: its low 8 bits are the report's number, and the rest is the value.
@@ -37,6 +38,7 @@ pub record ReportsFit : Type 0 where
   pub body-call : (file : List ℕ) (d : ℕ) → Fits (bodyReport file d)
   pub quick-repair : (card : List ℕ) (L budget : ℕ) (Ss tray : List ℕ) → Fits (trayReport card L budget Ss tray)
   pub update : (card : List ℕ) (L n d p : ℕ) → Fits (updateReport card L n d p)
+  pub partial-rebuild : (card : List ℕ) (L S : ℕ) (stripe : List ℕ) → Fits (partialReport card L S stripe)
 
 -- The minimal erasures are fewer than the data words.
 abbrev pub ErasuresFew : Type 0

@@ -14,6 +14,7 @@ ghost use Rattle.erasures.specs.Reports.{report as listedReport};
 ghost use Rattle.equations.specs.Reports.{report as toldReport};
 ghost use Rattle.encoder.specs.Reports.{report as encodedReport};
 ghost use Rattle.rebuilder.specs.Reports.{report as rebuiltReport};
+ghost use Rattle.partial_rebuilder.specs.Reports.{report as partlyRebuiltReport};
 ghost use Rattle.tray.specs.Reports.{report as repairedReport};
 ghost use Rattle.updater.specs.Reports.{report as updatedReport};
 ghost use Rattle.export_bounds.specs.Coded.{coded, Fits};
@@ -23,6 +24,7 @@ use encoder::Encoded;
 use equations::Told;
 use erasures::Listed;
 use likeness::Likeness;
+use partial_rebuilder::PartlyRebuilt;
 use rebuilder::Rebuilt;
 use tray::Repaired;
 use updater::Updated;
@@ -81,8 +83,7 @@ pub fn verdict_code(verdict: SetVerdict) -> u64
     ensures { λ r. ⌜ r ≡ coded (setVerdictReport verdict) ⌝ }
 {
     match verdict {
-        SetVerdict::Fatal => packed(0, 1),
-        SetVerdict::Recoverable => packed(0, 0),
+        SetVerdict::Undetermined(set) => packed(0, set as usize),
         SetVerdict::Card(fault) => fault_code(fault),
         SetVerdict::OutsideSet => 8,
     }
@@ -138,6 +139,21 @@ pub fn rebuilt_code(rebuilt: Rebuilt) -> u64
         Rebuilt::StripeLength => 7,
         Rebuilt::Fatal => 11,
         Rebuilt::Inconsistent => 12,
+    }
+}
+
+// A partial rebuild's answer.
+pub fn partly_rebuilt_code(rebuilt: PartlyRebuilt) -> u64
+    requires { ⌜ Fits (partlyRebuiltReport rebuilt) ⌝ }
+    ensures { λ r. ⌜ r ≡ coded (partlyRebuiltReport rebuilt) ⌝ }
+{
+    match rebuilt {
+        PartlyRebuilt::Undetermined(set) => packed(0, set as usize),
+        PartlyRebuilt::Card(fault) => fault_code(fault),
+        PartlyRebuilt::StripLength => 6,
+        PartlyRebuilt::OutsideSet => 8,
+        PartlyRebuilt::StripeLength => 7,
+        PartlyRebuilt::Inconsistent => 12,
     }
 }
 

@@ -4,7 +4,7 @@ use mathlib.Core.Path.{_≡_, refl, sym, ap, _∙_, subst}
 use mathlib.Core.Bool.{Bool, true, false, _||_}
 use mathlib.Core.Logic.{_⊎_, inl, inr, _≢_, ⊎-elim}
 use mathlib.Core.List.{List, [], _∷_}
-use Prim.Native.Nat.{ℕ, _*_, _/_, _%_, _<_}
+use Prim.Native.Nat.{ℕ, zero, suc, _*_, _/_, _%_, _^_, _<_}
 use native.Mathlib.Omega.{arith}
 use lib.Dec.{T, eqb}
 use lib.ListN.{getD}
@@ -14,20 +14,20 @@ use Rattle.gf2.specs.Sets.{has, _⊆_, over}
 use Rattle.gf2.proofs.Tests.{dec, eqb-in, eqb-out, unless-in, unless-out}
 use Rattle.gf2.proofs.Subsets.{⊆-out, ⊆-refl}
 use Rattle.gf2.proofs.Sums.{over-cong}
-use Rattle.flat.specs.Lists.{every, tabulate}
+use Rattle.flat.specs.Lists.{every, tabulate, Bytes}
 use Rattle.flat.specs.Cards.{Code, disks}
 use Rattle.flat.specs.Strips.{byteOf, holds, given}
 use Rattle.flat.specs.Erasures.{survivors, undeterminedSet, determinedSet}
 use Rattle.flat.specs.Rebuilding.{Agreeing, agrees, contents, agreeing, restored}
 use Rattle.flat.specs.Repairs.{filled, equationAmong}
 use Rattle.flat.specs.Rebuilt.{OneStrip, OnlyContent, RestoredFilled, AllRestoredFilled}
-use Rattle.flat.proofs.Lists.{tabulate-cong}
+use Rattle.flat.proofs.Lists.{length-tabulate, tabulate-cong}
 use Rattle.flat.proofs.Quantifiers.{every-in, every-out}
-use Rattle.flat.proofs.Words.{holds-data}
+use Rattle.flat.proofs.Words.{holds-data, holds-cong}
 use Rattle.flat.proofs.Duality.{survivor-out}
 use Rattle.flat.proofs.Undetermined.{determined-in, none-undetermined, all-determined}
 use Rattle.flat.proofs.Told.{equation-left, left-sum}
-use Rattle.flat.proofs.Positions.{places, at-place, given-byte}
+use Rattle.flat.proofs.Positions.{places, at-place, byte-table, given-byte}
 use Rattle.flat.proofs.Contents.{contents-in, contents-out, filter-some, filter-first}
 
 -- ---- place by place
@@ -119,6 +119,33 @@ agreeing-cases C L S stripe = go (agreeing C L S stripe)
     go : (l : List (List ℕ)) → (l ≡ []) ⊎ ((content : List ℕ) × (others : List (List ℕ)) × (l ≡ content ∷ others))
     go [] = inl refl
     go (c ∷ cs) = inr (c, cs, refl)
+
+-- ---- a content out of values at each place
+
+bytes-table : (n : ℕ) (f : ℕ → ℕ) → ((i : ℕ) → f i < 2 ^ 8) → Bytes (tabulate n f)
+unfolding tabulate
+bytes-table zero f h zero = omega arith
+bytes-table zero f h (suc i) = omega arith
+bytes-table (suc n) f h zero = h 0
+bytes-table (suc n) f h (suc i) = bytes-table n (λ j. f (suc j)) (λ j. h (suc j)) i
+
+-- data disk d gets v t d at place t
+module _ (C : Code) (L : ℕ) (v : ℕ → ℕ → ℕ) where
+  pub tabled : List ℕ
+  tabled = tabulate (C .k * L) (λ p. v (p % L) (p / L))
+
+  pub tabled-holds : (t i : ℕ) → t < L → holds C (byteOf L tabled t) i ≡ holds C (v t) i
+  unfolding tabled
+  tabled-holds t i h = holds-cong C (byteOf L tabled t) (v t) i (λ d m. byte-table (C .k) L v t d h m)
+
+  pub tabled-agrees : (S : ℕ) (stripe : List ℕ) → ((t d : ℕ) → v t d < 2 ^ 8) → ((t : ℕ) → t < L → Agree C S (byteOf L stripe t) (v t))
+      → Agreeing C L S stripe tabled
+  unfolding tabled
+  tabled-agrees S stripe small right = record {
+    strips = length-tabulate (C .k * L) _;
+    bytes = bytes-table (C .k * L) (λ p. v (p % L) (p / L)) (λ p. small (p % L) (p / L));
+    agree = agrees-in C L S stripe tabled (λ t h i l s. tabled-holds t i h ∙ right t h i l s);
+  }
 
 -- ---- filling
 

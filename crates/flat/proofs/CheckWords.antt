@@ -2,18 +2,18 @@
 -- minimal one.
 -- Assumes nothing.
 use mathlib.Core.Path.{_≡_, sym, ap, _∙_, subst}
-use mathlib.Core.Logic.{_⊎_, inl, inr, _≢_, _↔_}
+use mathlib.Core.Logic.{_↔_}
 use Prim.Native.Nat.{ℕ, _^_, _<_}
 use native.Mathlib.Nat.{lt-of-le-of-lt}
 use lib.Dec.{T}
 use lib.Pow.{pow-lt}
 use Rattle.gf2.specs.Sets.{has, _⊕_, _∖_, _⊆_, over}
 use Rattle.gf2.specs.Span.{InSpan, Minimal}
-use Rattle.gf2.proofs.Tests.{dec, T-ext, eqb-in, eqb-out}
+use Rattle.gf2.proofs.Tests.{T-ext, eqb-in, eqb-out}
 use Rattle.gf2.proofs.Bits.{bit-of-zero, not-has}
-use Rattle.gf2.proofs.Xor.{⊕-self, ⊕-cancel, ⊕-lt, ⊕-back}
-use Rattle.gf2.proofs.Subsets.{⊆-in, ⊆-refl, ⊕-left, ⊕-⊆, ∖-out, ⊆-le, power-in, power-out, less-back, less-⊆, plus-has, plus-back, plus-⊆}
-use Rattle.gf2.proofs.Spans.{sum-in}
+use Rattle.gf2.proofs.Xor.{⊕-self, ⊕-cancel, ⊕-lt}
+use Rattle.gf2.proofs.Subsets.{⊆-in, ∖-out, ⊆-le, power-in, power-out, less-back, less-⊆, plus-has, plus-back, plus-⊆}
+use Rattle.gf2.proofs.OneRow.{smallest-holder}
 use Rattle.gf2.proofs.Sums.{over-⊕, over-only}
 use Rattle.flat.specs.Cards.{Code, disks}
 use Rattle.flat.specs.Strips.{holds}
@@ -75,7 +75,10 @@ module _ (C : Code) (d : ℕ) (l : d < disks C) where
 
   pub minimal-word : (E : ℕ) → E < 2 ^ disks C → T (minimalEquation C d E) → Minimal (checks C) (E ⊕ 2 ^ d)
   minimal-word E h t =
-      record { word = word; nonzero = λ e. not-has 0 d (bit-of-zero d) (subst (λ (x : ℕ). T (has x d)) e own); alone = alone }
+      smallest-holder (checks C) d w (equation-word E h (least .holds)) (plus-has E d own)
+      (λ v s m u. sym (less-back v d m)
+      ∙ ap (λ (x : ℕ). x ⊕ 2 ^ d)
+      (least .alone (v ∖ 2 ^ d) (less-lt v s) (subst (λ (x : ℕ). T (v ∖ 2 ^ d ⊆ x)) (plus-back E d own) (less-⊆ v w (2 ^ d) u)) (word-equation v s m)))
     where
       w : ℕ
       w = E ⊕ 2 ^ d
@@ -83,28 +86,8 @@ module _ (C : Code) (d : ℕ) (l : d < disks C) where
       least : Least (disks C) (equation C d) E
       least = equation-least C d E .0 t
 
-      word : InSpan (checks C) w
-      word = equation-word E h (least .holds)
-
-      own : T (has w d)
-      own = plus-has E d (no-disk E (least .holds))
-
-      -- a word inside that holds d is the whole
-      whole : (v : ℕ) → InSpan (checks C) v → T (has v d) → T (v ⊆ w) → v ≡ w
-      whole v s m u =
-          sym (less-back v d m)
-          ∙ ap (λ (x : ℕ). x ⊕ 2 ^ d)
-          (least .alone (v ∖ 2 ^ d) (less-lt v s)
-          (subst (λ (x : ℕ). T (v ∖ 2 ^ d ⊆ x)) (plus-back E d (no-disk E (least .holds))) (less-⊆ v w (2 ^ d) u)) (word-equation v s m))
-
-      alone : (v : ℕ) → InSpan (checks C) v → v ≢ 0 → T (v ⊆ w) → v ≡ w
-      alone v s f u = go (dec (has v d))
-        where
-          go : T (has v d) ⊎ (T (has v d) → ⊥) → v ≡ w
-          go (inl m) = whole v s m u
-          go (inr g) =
-              let q : w ⊕ v ≡ w = whole (w ⊕ v) (sum-in (checks C) w v word s) (⊕-left w v d own g) (⊕-⊆ w v w (⊆-refl w) u) in
-              absurd (f (sym (⊕-back w v) ∙ ap (λ (x : ℕ). w ⊕ x) q ∙ ⊕-self w))
+      own : T (has E d) → ⊥
+      own = no-disk E (least .holds)
 
   pub word-minimal : (w : ℕ) → Minimal (checks C) w → T (has w d) → T (minimalEquation C d (w ∖ 2 ^ d))
   word-minimal w m h = equation-least C d (w ∖ 2 ^ d) .1 (record { holds = word-equation w (m .word) h; alone = alone })

@@ -3,9 +3,8 @@
 use mathlib.Core.Path.{_≡_, sym, ap, _∙_}
 use mathlib.Core.Logic.{inl, inr, _≢_, ⊎-elim}
 use mathlib.Core.List.{List, [], _∷_}
-use Prim.Native.Nat.{ℕ, zero, suc, _+_, _*_, _/_, _%_, _^_, _<_}
+use Prim.Native.Nat.{ℕ, _+_, _*_, _%_, _^_, _<_}
 use native.Mathlib.Nat.{mod-lt, mod-eq-of-lt}
-use native.Mathlib.Omega.{arith}
 use lib.Dec.{T, eqb}
 use Rattle.gf2.specs.Sets.{_⊕_, over}
 use Rattle.gf2.specs.Span.{InSpan}
@@ -15,7 +14,7 @@ use Rattle.gf2.proofs.Xor.{zero-⊕}
 use Rattle.gf2.proofs.Sums.{over-⊕, over-none}
 use Rattle.gf2.proofs.Spans.{first-in}
 use Rattle.gf2.proofs.Elimination.{within-spans}
-use Rattle.flat.specs.Lists.{tabulate, Bytes}
+use Rattle.flat.specs.Lists.{Bytes}
 use Rattle.flat.specs.Cards.{Code, disks}
 use Rattle.flat.specs.Strips.{byteOf}
 use Rattle.flat.specs.Erasures.{survivors}
@@ -23,12 +22,9 @@ use Rattle.flat.specs.Spans.{checks}
 use Rattle.flat.specs.Rebuilding.{Agreeing, agreeing}
 use Rattle.flat.specs.Repairs.{vanishes, allVanish, consistent}
 use Rattle.flat.specs.Rebuilt.{ConsistentAgrees}
-use Rattle.flat.proofs.Lists.{length-tabulate}
 use Rattle.flat.proofs.Quantifiers.{every-in, every-out}
-use Rattle.flat.proofs.Words.{holds-cong}
 use Rattle.flat.proofs.Rows.{word-sum}
-use Rattle.flat.proofs.Positions.{byte-table}
-use Rattle.flat.proofs.Agreement.{Agree, agrees-in, agrees-out, agree-sum, some-agreeing, first-agreeing, agreeing-cases}
+use Rattle.flat.proofs.Agreement.{Agree, agrees-out, agree-sum, some-agreeing, first-agreeing, agreeing-cases, tabled, tabled-agrees}
 use Rattle.flat.proofs.Solving.{Vanishing, solved}
 
 -- ---- each of some sets vanishes, and so each word of their span
@@ -77,13 +73,6 @@ agree-vanishing C S f v a E s t = sym (agree-sum C S E f v a t) ∙ word-sum C E
 
 -- ---- where they vanish, a content agrees
 
-bytes-table : (n : ℕ) (f : ℕ → ℕ) → ((i : ℕ) → f i < 2 ^ 8) → Bytes (tabulate n f)
-unfolding tabulate
-bytes-table zero f h zero = omega arith
-bytes-table zero f h (suc i) = omega arith
-bytes-table (suc n) f h zero = h 0
-bytes-table (suc n) f h (suc i) = bytes-table n (λ j. f (suc j)) (λ j. h (suc j)) i
-
 module _ (C : Code) (L S : ℕ) (stripe : List ℕ) (z : 0 < L) (bytes : Bytes stripe) (ok : T (consistent C L S stripe)) where
   byte-lt : (t i : ℕ) → byteOf L stripe t i < 2 ^ 8
   unfolding byteOf
@@ -93,26 +82,13 @@ module _ (C : Code) (L S : ℕ) (stripe : List ℕ) (z : 0 < L) (bytes : Bytes s
   found : (t : ℕ) → (v : ℕ → ℕ) × ((d : ℕ) → v d < 2 ^ 8) × Agree C S (byteOf L stripe (t % L)) v
   found t = solved C S (byteOf L stripe (t % L)) (byte-lt (t % L)) (consistent-out C L S stripe ok (t % L) (mod-lt t z))
 
-  table : ℕ → ℕ
-  table p = found (p % L) .0 (p / L)
-
-  content : List ℕ
-  content = tabulate (C .k * L) table
-
-  agreed : (t : ℕ) → t < L → Agree C S (byteOf L stripe t) (byteOf L content t)
-  unfolding content table
-  agreed t h i l s =
-      holds-cong C (byteOf L content t) (found t .0) i (λ d m. byte-table (C .k) L (λ u e. found u .0 e) t d h m)
-      ∙ found t .2 i l s ∙ ap (λ (u : ℕ). byteOf L stripe u i) (mod-eq-of-lt h)
+  abbrev content : List ℕ
+  content = tabled C L (λ t. found t .0)
 
   content-agrees : Agreeing C L S stripe content
-  unfolding content table
   content-agrees =
-      record {
-        strips = length-tabulate (C .k * L) table;
-        bytes = bytes-table (C .k * L) table (λ p. found (p % L) .1 (p / L));
-        agree = agrees-in C L S stripe content agreed;
-      }
+      tabled-agrees C L (λ t. found t .0) S stripe (λ t. found t .1)
+      (λ t h i l s. found t .2 i l s ∙ ap (λ (u : ℕ). byteOf L stripe u i) (mod-eq-of-lt h))
 
 -- this direction needs no bytes and no length
 pub agreeing-consistent : (C : Code) (L S : ℕ) (stripe : List ℕ) → agreeing C L S stripe ≢ [] → T (consistent C L S stripe)

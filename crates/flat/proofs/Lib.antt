@@ -18,6 +18,7 @@ pub mod Blocks
 pub mod Totals
 pub mod Least
 pub mod ErasuresListed
+pub mod UndeterminedListed
 pub mod Vector
 pub mod CheckWords
 pub mod EquationsListed
@@ -30,5 +31,6 @@ pub mod Agreement
 pub mod Solving
 pub mod Consistency
 pub mod Tested
+pub mod Never
 pub mod Rebuilds
 pub mod Theorems

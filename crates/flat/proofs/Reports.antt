@@ -1,7 +1,7 @@
 -- What an accepted report tells of the tests that led to it, what a refused call leaves, what a call with a card answers, and the report of
 -- a list.
 -- Assumes nothing.
-use mathlib.Core.Path.{_≡_, refl, sym, ap, _∙_}
+use mathlib.Core.Path.{_≡_, refl, sym, ap, _∙_, subst}
 use mathlib.Core.Bool.{Bool, true, false}
 use mathlib.Core.Logic.{_≢_, ⊎-elim}
 use mathlib.Core.List.{List, [], _∷_}
@@ -37,6 +37,12 @@ module _ {A : Type 0} where
   pub unless-not : (r : Report) (new old : A) → r .number ≢ 0 → unlessRefused r new old ≡ old
   unfolding unlessRefused
   unless-not r new old f = rw (T-false {b = eqb (r .number) 0} (λ t. f (eqb-out (r .number) 0 t)))
+
+  -- what holds of both holds either way
+  pub unless-either : (P : A → Type 0) (r : Report) (new old : A) → P new → P old → P (unlessRefused r new old)
+  unless-either P r new old p q =
+      ⊎-elim (λ t. subst P (sym (unless-number r new old (eqb-out (r .number) 0 t))) p) (λ f. subst P (sym (unless-not r new old (λ z. f (eqb-in z)))) q)
+      (dec (eqb (r .number) 0))
 
   pub unless-accepted : (r : Report) (ws : List ℕ) (new old : A) → r ≡ accepted ws → unlessRefused r new old ≡ new
   unless-accepted r ws new old e = unless-number r new old (ap (λ (x : Report). x .number) e)

@@ -1,17 +1,18 @@
--- The tests of a strip length, a lost set and a stripe: their answer at each way out, and what is known past them.
+-- The tests of a strip length, a lost set and a stripe: their answer at each way out, what is known past them, and a call that makes them after
+-- the card's.
 -- Assumes nothing.
-use mathlib.Core.Path.{_≡_}
+use mathlib.Core.Path.{_≡_, sym, ap, _∙_}
 use mathlib.Core.Bool.{true, false, not}
 use mathlib.Core.Logic.{_≢_}
-use mathlib.Core.List.{[]}
+use mathlib.Core.List.{List, []}
 use Prim.Native.Nat.{ℕ, _*_, _^_, _≤_, _<_}
 use borrow.Author.Tests.{not-false}
-use lib.Dec.{eqb}
+use lib.Dec.{T, eqb}
 use Rattle.gf2.proofs.Tests.{true-T, T-true, T-false, eqb-in, eqb-out, ltb-out}
-use Rattle.flat.specs.Cards.{Code, disks, setOk}
+use Rattle.flat.specs.Cards.{Code, codeOf, disks, setOk}
 use Rattle.flat.specs.Strips.{lengthOk}
-use Rattle.flat.specs.Faults.{Report, refused, stripeTests}
-use Rattle.flat.proofs.Reports.{passed-number}
+use Rattle.flat.specs.Faults.{Report, accepted, refused, cardReport, withCard, stripeTests}
+use Rattle.flat.proofs.Reports.{passed-number, with-accepted, with-number}
 use Rattle.flat.proofs.Lengths.{length-in}
 
 -- what a call has tested
@@ -58,3 +59,23 @@ module _ (C : Code) (L S n : ℕ) (next : Report) where
         set-ok = not-false _ (b .0);
         size = eqb-out n (disks C * L) (true-T {b = eqb n (disks C * L)} (not-false _ (c .0)));
       }
+
+-- ---- after the card's
+
+module _ (card : List ℕ) (L S n : ℕ) (next : Code → Report) where
+  abbrev report : Report
+  report = withCard card (λ C. stripeTests C L S n (next C))
+
+  -- for an accepted card, a set of its disks, a length and a stripe of that length
+  pub tests-are : (ws : List ℕ) → cardReport card ≡ accepted ws → T (lengthOk L) → T (setOk (codeOf card) S) → n ≡ disks (codeOf card) * L
+      → report ≡ next (codeOf card)
+  tests-are ws ok a b e =
+      with-accepted card ws (λ C. stripeTests C L S n (next C)) ok
+      ∙ tests-past (codeOf card) L S n (next (codeOf card)) (record { length-ok = T-true {b = lengthOk L} a; set-ok = T-true {b = setOk (codeOf card) S} b; size = e })
+
+  -- where the whole accepts, so does what follows
+  pub tests-number : report .number ≡ 0 → next (codeOf card) .number ≡ 0
+  tests-number e =
+      let number : Report → ℕ = λ r. r .number in
+      let t = sym (ap number (with-number card (λ C. stripeTests C L S n (next C)) e)) ∙ e in
+      sym (ap number (tests-past (codeOf card) L S n (next (codeOf card)) (tests-passed (codeOf card) L S n (next (codeOf card)) t))) ∙ t

@@ -16,6 +16,7 @@ use Rattle.flat.proofs.Duality as duality
 use Rattle.flat.proofs.Undetermined as unions
 use Rattle.flat.proofs.Order.{sorted-at}
 use Rattle.flat.proofs.ErasuresListed as listed
+use Rattle.flat.proofs.UndeterminedListed as held
 use Rattle.flat.proofs.Vector as vectors
 use Rattle.flat.proofs.EquationsListed as equated
 use Rattle.flat.proofs.Verdicts as verdicts
@@ -67,6 +68,9 @@ fatal-undetermined = unions.fatal-undetermined
 pub undetermined-lost : Theorems.UndeterminedLost
 undetermined-lost = unions.undetermined-lost
 
+pub determined-rest : Theorems.DeterminedRest
+determined-rest C S d = (unions.determined-out C S d, λ p. unions.determined-in C S d (p .0) (p .1))
+
 pub erasures-exact : Theorems.ErasuresExact
 erasures-exact C S = (listed.erasures-out C S, λ p. listed.erasures-in C S (p .0) (p .1))
 
@@ -78,6 +82,9 @@ one-per-data-part = listed.one-per-data-part
 
 pub fatal-holds-listed : Theorems.FatalHoldsListed
 fatal-holds-listed = listed.fatal-listed
+
+pub undetermined-listed : Theorems.UndeterminedListed
+undetermined-listed C S d = held.undetermined-listed C d S
 
 pub erasures-enumerated : Theorems.ErasuresEnumerated
 erasures-enumerated = listed.erasures-enumerated
@@ -115,9 +122,6 @@ minimal-sizes C w = (
   vectors.word-size C w,
   λ s e. omega (arith, one-left-size (disks C) (checks C) (λ v t. spans.checks-span C v .0 t .0) w s e, spans.checks-length C),
 )
-
-pub verdict-listed : Theorems.VerdictListed
-verdict-listed = verdicts.verdict-listed
 
 pub equation-listed : Theorems.EquationListed
 equation-listed = verdicts.equation-listed

@@ -1,46 +1,37 @@
--- The verdict call, the lister and the equation call share one verdict, stated over their reports and the slices at exit.
+-- The reports of the verdict call, the lister and the equation call for an accepted card, and the slices at exit.
 -- Assumes nothing.
 use mathlib.Core.Path.{_≡_, refl, sym, ap, _∙_, subst}
-use mathlib.Core.Bool.{Bool, true, false, not}
-use mathlib.Core.Logic.{_↔_}
+use mathlib.Core.Bool.{Bool, not}
 use mathlib.Core.List.{List, [], _∷_}
 use Prim.Native.Nat.{ℕ, _<_}
 use native.Mathlib.Nat.{lt-of-le-of-lt}
-use native.Mathlib.Omega.{arith}
 use borrow.Author.Tests.{not-false, lt-ltb}
 use lib.Dec.{T, ltb}
-use lib.ListN.{length, getD, take}
+use lib.ListN.{length, take}
 use Rattle.gf2.specs.If.{if_then_else_}
-use Rattle.gf2.specs.Sets.{has}
+use Rattle.gf2.specs.Sets.{has, _⊆_}
 use Rattle.gf2.proofs.Tests.{T-true, true-T, ltb-out}
 use Rattle.gf2.proofs.Subsets.{⊆-trans, ⊆-le}
 use Rattle.flat.specs.Lists.{member}
 use Rattle.flat.specs.Cards.{Code, codeOf, disks, setOk}
-use Rattle.flat.specs.Erasures.{survivors, fatal, erasures}
+use Rattle.flat.specs.Erasures.{survivors, undeterminedSet, erasures}
 use Rattle.flat.specs.Equations.{equations}
-use Rattle.flat.specs.Faults.{Report, accepted, refused, yesNo, cardReport, verdictTests, verdictReport, listReport, listSlice, erasuresReport, erasuresSlice, equationsTests, equationsReport, equationsSlice}
-use Rattle.flat.specs.Theorems.{VerdictListed, EquationListed, LongSlicesAccepted}
+use Rattle.flat.specs.Faults.{accepted, refused, cardReport, verdictTests, verdictReport, listReport, listSlice, erasuresReport, erasuresSlice, equationsTests, equationsReport, equationsSlice}
+use Rattle.flat.specs.Theorems.{EquationListed, LongSlicesAccepted}
 use Rattle.flat.proofs.Reports.{passed, unless-accepted, with-accepted, list-fits, list-written}
 use Rattle.flat.proofs.Quantifiers.{set-lt}
 use Rattle.flat.proofs.CheckWords.{equation-least}
 use Rattle.flat.proofs.EquationsListed as equated
-use Rattle.flat.proofs.ErasuresListed.{fatal-listed}
-
--- yes is 1
-pub yes-no : (b : Bool) → (accepted (yesNo b ∷ []) ≡ accepted (1 ∷ [])) ↔ T b
-unfolding yesNo
-yes-no true = (λ e. tt, λ t. refl)
-yes-no false = (λ e. absurd (let z : _≡_ {A = ℕ} 0 1 = ap (λ (r : Report). getD (r .values) 0 0) e in omega arith), λ t. absurd t)
 
 module _ (card : List ℕ) (k m : ℕ) (ok : cardReport card ≡ accepted (k ∷ m ∷ [])) where
   abbrev C : Code
   C = codeOf card
 
-  pub verdict-is : (S : ℕ) → T (setOk C S) → verdictReport card S ≡ accepted (yesNo (fatal C S) ∷ [])
+  pub verdict-is : (S : ℕ) → T (setOk C S) → verdictReport card S ≡ accepted (undeterminedSet C S ∷ [])
   unfolding verdictReport verdictTests
   verdict-is S t =
       with-accepted card (k ∷ m ∷ []) (λ D. verdictTests D S) ok
-      ∙ ap (λ (b : Bool). if not b then refused 8 [] else accepted (yesNo (fatal C S) ∷ [])) (T-true {b = setOk C S} t)
+      ∙ ap (λ (b : Bool). if not b then refused 8 [] else accepted (undeterminedSet C S ∷ [])) (T-true {b = setOk C S} t)
 
   -- what the lister writes, and what the equation call writes
   pub erasures-written : (slice : List ℕ) (count : ℕ) → erasuresReport card (length slice) ≡ accepted (count ∷ [])
@@ -69,16 +60,6 @@ module _ (card : List ℕ) (k m : ℕ) (ok : cardReport card ≡ accepted (k ∷
         ap (take count) (unless-accepted (equationsReport card d (length slice)) (count ∷ []) (listSlice (equations C d) slice) slice e)
             ∙ list-written (equations C d) slice count (p .1),
       )
-
-pub verdict-listed : VerdictListed
-verdict-listed card slice S k m count ok t e =
-    let v = verdict-is card k m ok S t in
-    let w = erasures-written card k m ok slice count e in
-    let f = fatal-listed (codeOf card) S in
-    let y = yes-no (fatal (codeOf card) S) in (
-      λ q. let r = f .0 (y .0 (sym v ∙ q)) in (r .0, subst (λ (l : List ℕ). T (member (r .0) l)) (sym w) (r .1), r .2),
-      λ r. v ∙ y .1 (f .1 (r .0, subst (λ (l : List ℕ). T (member (r .0) l)) w (r .1), r .2)),
-    )
 
 pub equation-listed : EquationListed
 unfolding survivors

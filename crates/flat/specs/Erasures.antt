@@ -32,13 +32,13 @@ unfoldable pub fatal : Code → ℕ → Bool
 unfolding some agreeOutside
 fatal C S = some (2 ^ C .k) (λ x. some (2 ^ C .k) (λ y. not (eqb x y) && agreeOutside C S x y))
 
--- does the loss of S leave disk d undetermined: do two data words that agree outside S differ on it?
+-- does the loss of S leave disk d undetermined (document 02, request [5]): do two data words that agree outside S differ on it?
 unfoldable pub undetermined : Code → ℕ → ℕ → Bool
 unfolding some agreeOutside holdsBit
 undetermined C S d =
     some (2 ^ C .k) (λ x. some (2 ^ C .k) (λ y. agreeOutside C S x y && not (eqb (holdsBit C x d) (holdsBit C y d))))
 
--- the undetermined disks of S, and its other disks, which the survivors determine
+-- the undetermined disks of S, which are the verdict call's answer, and its other disks, which the survivors determine
 unfoldable pub undeterminedSet : Code → ℕ → ℕ
 unfolding setOf disks undetermined
 undeterminedSet C S = setOf (disks C) (undetermined C S)

@@ -11,7 +11,7 @@ use Rattle.gf2.specs.Sets.{size}
 use Rattle.flat.specs.Lists.{padded}
 use Rattle.flat.specs.Cards.{Code, disks, setOk, countOk, firstBad, cardLength, cardBytes, codeOf}
 use Rattle.flat.specs.Strips.{lengthOk, encoded}
-use Rattle.flat.specs.Erasures.{fatal, erasures, vector}
+use Rattle.flat.specs.Erasures.{fatal, undeterminedSet, erasures, vector}
 use Rattle.flat.specs.Equations.{equations}
 use Rattle.flat.specs.Rebuilding.{agreeing, restored}
 use Rattle.flat.specs.Alike.{alike}
@@ -94,11 +94,11 @@ unfoldable pub encodeStripe : List ℕ → ℕ → List ℕ → List ℕ
 unfolding unlessRefused encodeReport encoded codeOf
 encodeStripe card L stripe = unlessRefused (encodeReport card L (length stripe)) (encoded (codeOf card) L stripe) stripe
 
--- ---- the verdict call
+-- ---- the verdict call: the lost disks that the survivors don't determine (document 02, request [5])
 
 unfoldable pub verdictTests : Code → ℕ → Report
-unfolding setOk yesNo fatal
-verdictTests C S = if not (setOk C S) then refused 8 [] else accepted (yesNo (fatal C S) ∷ [])
+unfolding setOk undeterminedSet
+verdictTests C S = if not (setOk C S) then refused 8 [] else accepted (undeterminedSet C S ∷ [])
 
 unfoldable pub verdictReport : List ℕ → ℕ → Report
 unfolding withCard verdictTests

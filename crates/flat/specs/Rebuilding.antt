@@ -36,7 +36,7 @@ unfoldable pub agreeing : Code → ℕ → ℕ → List ℕ → List (List ℕ)
 unfolding filter agrees contents
 agreeing C L S stripe = filter (agrees C L S stripe) (contents (C .k * L))
 
--- the stripe in which the lost strips become those of the first of the contents, and the others keep their bytes
+-- the stripe in which the strips of S become those of the first of the contents, and the others keep their bytes
 unfoldable pub restored : Code → ℕ → ℕ → List ℕ → List (List ℕ) → List ℕ
 unfolding tabulate disks has given
 restored C L S stripe [] = stripe

@@ -1,4 +1,4 @@
--- Strips computed from other strips: what the rebuilder does, and how it decides. Nobody has to believe these: the theorems of Rebuilt
+-- Strips computed from other strips: what the rebuild calls do, and how they decide. Nobody has to believe these: the theorems of Rebuilt
 -- say that they are document 01's rebuilding, and no public contract names them.
 -- Assumes nothing.
 use mathlib.Core.Bool.{Bool, true, _&&_}

@@ -10,10 +10,10 @@ use Rattle.gf2.specs.Sets.{has, size, _⊕_, _⊆_, union, over}
 use Rattle.gf2.specs.Span.{InSpan, Independent}
 use Rattle.gf2.specs.Within.{within}
 use Rattle.flat.specs.Lists.{Bytes, sum, member, padded}
-use Rattle.flat.specs.Cards.{Code, code, codeOf, disks, column, setOk, dataPart}
-use Rattle.flat.specs.Erasures.{holdsBit, survivors, fatal, undetermined, undeterminedSet, minimalErasure, erasures, vector}
+use Rattle.flat.specs.Cards.{Code, code, codeOf, disks, column, dataPart}
+use Rattle.flat.specs.Erasures.{holdsBit, survivors, fatal, undetermined, undeterminedSet, determinedSet, minimalErasure, erasures, vector}
 use Rattle.flat.specs.Equations.{equation, minimalEquation, equations}
-use Rattle.flat.specs.Faults.{accepted, cardReport, cardColumns, cardWriteReport, cardWriteBuffer, verdictReport, erasuresReport, erasuresVector, erasuresSlice, equationsReport, equationsSlice}
+use Rattle.flat.specs.Faults.{accepted, cardReport, cardColumns, cardWriteReport, cardWriteBuffer, erasuresReport, erasuresVector, equationsReport, equationsSlice}
 use Rattle.flat.specs.Spans.{codeword, rows, checks, erasuresByWord, equationsByParities}
 
 -- ---- cards (demand 2)
@@ -99,6 +99,11 @@ FatalUndetermined = (C : Code) (S : ℕ) → T (fatal C S) ↔ (undeterminedSet 
 abbrev pub UndeterminedLost : Type 0
 UndeterminedLost = (C : Code) (S : ℕ) → T (undeterminedSet C S ⊆ S)
 
+-- The determined disks are the lost ones that are not undetermined.
+abbrev pub DeterminedRest : Type 0
+DeterminedRest =
+    (C : Code) (S d : ℕ) → T (has (determinedSet C S) d) ↔ (T (has S d) × (T (has (undeterminedSet C S) d) → ⊥))
+
 -- ---- the list of minimal erasures
 
 -- Its members are exactly the minimal erasures.
@@ -121,6 +126,11 @@ OnePerDataPart =
 -- A set is fatal exactly where it contains an entry.
 abbrev pub FatalHoldsListed : Type 0
 FatalHoldsListed = (C : Code) (S : ℕ) → T (fatal C S) ↔ ((R : ℕ) × T (member R (erasures C)) × T (R ⊆ S))
+
+-- A disk is undetermined exactly where an entry inside the set holds it.
+abbrev pub UndeterminedListed : Type 0
+UndeterminedListed =
+    (C : Code) (S d : ℕ) → T (has (undeterminedSet C S) d) ↔ ((R : ℕ) × T (member R (erasures C)) × T (R ⊆ S) × T (has R d))
 
 -- It equals the enumeration with one candidate for each data word, kept where one row is left inside its codeword.
 abbrev pub ErasuresEnumerated : Type 0
@@ -186,15 +196,7 @@ MinimalSizes =
     → (InSpan (rows C) w → length (within w (rows C)) ≡ 1 → size w ≤ C .m + 1)
     × (InSpan (checks C) w → length (within w (checks C)) ≡ 1 → size w ≤ C .k + 1)
 
--- ---- verdict, list and equations share one verdict
-
--- For an accepted card and a set of its disks, the verdict is yes exactly where the set contains one of the count entries that the
--- lister writes, into any slice that it accepts.
-abbrev pub VerdictListed : Type 0
-VerdictListed =
-    (card slice : List ℕ) (S k m count : ℕ) → cardReport card ≡ accepted (k ∷ m ∷ []) → T (setOk (codeOf card) S)
-    → erasuresReport card (length slice) ≡ accepted (count ∷ [])
-    → (verdictReport card S ≡ accepted (1 ∷ [])) ↔ ((R : ℕ) × T (member R (take count (erasuresSlice card slice))) × T (R ⊆ S))
+-- ---- the lists as the calls write them
 
 -- For an accepted card and a set of lost disks, a disk has an equation among the survivors exactly where one of the count entries that
 -- the equation call writes for it lies among them, into any slice that it accepts.

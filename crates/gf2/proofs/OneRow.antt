@@ -1,18 +1,21 @@
--- A word of the span of independent rows is minimal exactly where one row is left inside it: two rows would be two words inside it.
+-- A word of the span of independent rows is minimal exactly where one row is left inside it: two rows would be two words inside it. And the
+-- smallest words that hold some disk are minimal.
 -- Assumes nothing.
-use mathlib.Core.Path.{_≡_, refl, sym, _∙_, subst}
-use mathlib.Core.Logic.{inl, inr, _≢_, _↔_}
+use mathlib.Core.Path.{_≡_, refl, sym, ap, _∙_, subst}
+use mathlib.Core.Logic.{inl, inr, _≢_, _↔_, ⊎-elim}
 use mathlib.Core.List.{List, [], _∷_}
 use Prim.Native.Nat.{ℕ}
 use native.Mathlib.Omega.{arith}
 use lib.Dec.{T}
 use lib.ListN.{length}
-use Rattle.gf2.specs.Sets.{_⊆_}
+use Rattle.gf2.specs.Sets.{has, _⊕_, _⊆_}
 use Rattle.gf2.specs.Span.{InSpan, Independent, Minimal}
 use Rattle.gf2.specs.Within.{within}
-use Rattle.gf2.proofs.Xor.{⊕-cancel}
-use Rattle.gf2.proofs.Subsets.{⊆-refl, ⊆-zero}
-use Rattle.gf2.proofs.Spans.{at, zero-in, first-in}
+use Rattle.gf2.proofs.Tests.{dec}
+use Rattle.gf2.proofs.Bits.{no-disk}
+use Rattle.gf2.proofs.Xor.{⊕-self, ⊕-back, ⊕-cancel}
+use Rattle.gf2.proofs.Subsets.{⊆-refl, ⊆-zero, ⊕-left, ⊕-⊆}
+use Rattle.gf2.proofs.Spans.{at, zero-in, first-in, sum-in}
 use Rattle.gf2.proofs.Elimination.{SpansInside, within-spans, within-indep}
 
 -- an independent row is not 0
@@ -50,3 +53,15 @@ one-row bs w i h =
     let l = within w bs in
     let k : Left bs w l = (within-indep w bs i, within-spans w bs) in
     (one-left bs w l k, left-one bs w l k h)
+
+-- a word that holds disk d, where no smaller one does, is minimal: what it has more than a word inside it without d is one that holds d
+pub smallest-holder : (bs : List ℕ) (d w : ℕ) → InSpan bs w → T (has w d) → ((v : ℕ) → InSpan bs v → T (has v d) → T (v ⊆ w) → v ≡ w) → Minimal bs w
+smallest-holder bs d w s m h =
+    record {
+      word = s;
+      nonzero = λ e. no-disk d (subst (λ (x : ℕ). T (has x d)) e m);
+      alone = λ v t f u. ⊎-elim (λ i. h v t i u)
+          (λ i. let q : w ⊕ v ≡ w = h (w ⊕ v) (sum-in bs w v s t) (⊕-left w v d m i) (⊕-⊆ w v w (⊆-refl w) u) in
+          absurd (f (sym (⊕-back w v) ∙ ap (λ (x : ℕ). w ⊕ x) q ∙ ⊕-self w)))
+          (dec (has v d));
+    }

@@ -1,21 +1,20 @@
 -- The call's report, and what an accepted call does.
 -- Assumes nothing.
 use mathlib.Core.Path.{_≡_, sym, ap, _∙_, subst}
-use mathlib.Core.Bool.{Bool, true, false, not}
-use mathlib.Core.Logic.{_≢_}
+use mathlib.Core.Bool.{true, not}
 use mathlib.Core.List.{List, [], _∷_}
 use Prim.Native.Nat.{ℕ, suc, _-_, _*_, _≤_, _<_}
 use native.Mathlib.Omega.{arith}
 use borrow.Author.Tests.{eqb-true, not-false}
-use lib.Dec.{T, eqb, ltb, leb}
+use lib.Dec.{T, eqb, leb}
 use lib.ListN.{length, getD, replicate, length-map, List·getD-map, List·getD-append}
-use Rattle.gf2.specs.If.{if_then_else_}
 use Rattle.gf2.proofs.Tests.{true-T, and-out, leb-out}
 use Rattle.flat.specs.Lists.{padded}
-use Rattle.flat.specs.Cards.{Code, codeOf, disks, countOk, firstBad, cardLength}
+use Rattle.flat.specs.Cards.{Code, codeOf, disks}
 use Rattle.flat.specs.Strips.{lengthOk}
-use Rattle.flat.specs.Faults.{Report, accepted, refused, unlessRefused, codeReport, cardReport}
+use Rattle.flat.specs.Faults.{Report, accepted}
 use Rattle.flat.proofs.Reports.{passed-number, unless-number, with-number}
+use Rattle.flat.proofs.Never.{Not, never-test, never-accepted, never-with}
 use Rattle.repair_steps.specs.Steps.{Repairs}
 use Rattle.repair_steps.proofs.Stepped.{repair-gives}
 use Rattle.peeling.specs.Peeling.{lone, Peeled, rest}
@@ -26,46 +25,17 @@ use Rattle.peeling.proofs.Trays.{tray-length, tray-count, tray-cut, tra
 
 -- ---- never 11 or 12
 
--- the report's number is another
-record Not (x : ℕ) (r : Report) : Type 0 where
-  differs : r .number ≢ x
-
-module _ (x : ℕ) (low : 11 ≤ x) (high : x ≤ 12) where
-  -- another refusal first, and then none of the two
-  unless : (b : Bool) (n : ℕ) (vs : List ℕ) {next : Report} → n ≢ x → Not x next → Not x (if b then refused n vs else next)
-  unless true n vs f g = record { differs = f }
-  unless false n vs f g = g
-
-  fine : (vs : List ℕ) → Not x (accepted vs)
-  fine vs = record { differs = λ e. omega arith }
-
-  card-never : (card : List ℕ) → Not x (cardReport card)
-  unfolding cardReport codeReport
-  card-never card =
-      let C = codeOf card in
-      unless (ltb (length card) 2) 1 [] (λ e. omega arith)
-      (unless (not (countOk (C .k))) 2 [] (λ e. omega arith)
-      (unless (not (countOk (C .m))) 3 [] (λ e. omega arith)
-      (unless (not (eqb (length card) (cardLength (C .m)))) 4 [] (λ e. omega arith)
-      (unless (ltb (firstBad (C .k) (C .columns)) (C .m)) 5 (firstBad (C .k) (C .columns) ∷ []) (λ e. omega arith) (fine (C .k ∷ C .m ∷ []))))))
-
-  with-never : (card : List ℕ) {r : Report} → Not x r → Not x (unlessRefused (cardReport card) r (cardReport card))
-  unfolding unlessRefused
-  with-never card {r} g = go (eqb (cardReport card .number) 0)
-    where
-      go : (b : Bool) → Not x (if b then r else cardReport card)
-      go true = g
-      go false = card-never card
-
-  tray-never : (card : List ℕ) (L budget : ℕ) (Ss tray : List ℕ) → Not x (trayReport card L budget Ss tray)
-  unfolding trayReport trayTests
-  tray-never card L budget Ss tray =
-      let C = codeOf card in
-      with-never card
-      (unless (not (lengthOk L)) 6 [] (λ e. omega arith)
-      (unless (not (trayOk (length Ss))) 17 [] (λ e. omega arith)
-      (unless (not (setsOk C Ss)) 8 [] (λ e. omega arith)
-      (unless (not (eqb (length tray) (length Ss * (disks C * L)))) 7 [] (λ e. omega arith) (fine (total (trayPeeled C L budget Ss tray) ∷ []))))))
+tray-never : (x : ℕ) → 11 ≤ x → x ≤ 12 → (card : List ℕ) (L budget : ℕ) (Ss tray : List ℕ) → Not x (trayReport card L budget Ss tray)
+unfolding trayReport trayTests
+tray-never x low high card L budget Ss tray =
+    let C = codeOf card in
+    let h : 5 < x = omega arith in
+    never-with x h card (λ C. trayTests C L budget Ss tray)
+    (never-test x h (not (lengthOk L)) 6 [] (λ e. omega arith)
+    (never-test x h (not (trayOk (length Ss))) 17 [] (λ e. omega arith)
+    (never-test x h (not (setsOk C Ss)) 8 [] (λ e. omega arith)
+    (never-test x h (not (eqb (length tray) (length Ss * (disks C * L)))) 7 [] (λ e. omega arith)
+    (never-accepted x h (total (trayPeeled C L budget Ss tray) ∷ []))))))
 
 pub no-disks-fault : NoDisksFault
 no-disks-fault card L budget Ss tray = (

@@ -1,42 +1,23 @@
--- What the rebuilder answers at each way out of its tests, and what it answers and leaves in the stripe for a good card and for a bad one.
+-- What the rebuilder answers by its tests, and what it answers and leaves in the stripe for a good card and for a bad one.
 -- Assumes nothing.
 use mathlib.Core.Path.{_≡_, sym, ap, _∙_}
-use mathlib.Core.Bool.{true, false}
-use mathlib.Core.Logic.{_≢_}
-use mathlib.Core.List.{List, []}
-use Prim.Native.Nat.{ℕ, _+_, _*_, _^_}
-use lib.Dec.{ltb}
+use mathlib.Core.List.{List}
+use Prim.Native.Nat.{ℕ}
 use lib.ListN.{length}
-use Rattle.flat.specs.Cards.{Code, code, disks, setOk, codeOf, columnBytes, codeIn}
-use Rattle.flat.specs.Strips.{lengthOk}
+use Rattle.flat.specs.Cards.{Code, code, codeOf, columnBytes, codeIn}
 use Rattle.flat.specs.Rebuilding.{agreeing, restored}
-use Rattle.flat.specs.Faults.{Report, unlessRefused, refused, cardReport, disksReport, rebuildTests, rebuildReport, rebuildStripe}
-use Rattle.flat.proofs.Tested.{Passed, tests-length, tests-set, tests-size, tests-past}
+use Rattle.flat.specs.Faults.{Report, unlessRefused, cardReport, stripeTests, disksReport, rebuildTests, rebuildReport, rebuildStripe}
 use Rattle.card.specs.declared.CardFault.{CardFault}
 use Rattle.card.specs.declared.CardCheck.the-variants.{Bad}
 use Rattle.card.specs.Reports.{faultReport, report as checkReport}
 use Rattle.card.proofs.Laws.{unless-fault}
 use Rattle.card.proofs.Callers.{GoodCard, good-with, bad-card}
 
-module _ (k m : ℕ) (columns : List ℕ) (L S : ℕ) (stripe : List ℕ) where
-  abbrev C : Code
-  C = code k m columns
-
-  pub length-report : lengthOk L ≡ false → refused 6 [] ≡ rebuildTests C L S stripe
-  unfolding rebuildTests
-  length-report = tests-length C L S (length stripe) (disksReport C L S stripe)
-
-  pub set-report : lengthOk L ≡ true → ltb S (2 ^ (k + m)) ≡ false → refused 8 [] ≡ rebuildTests C L S stripe
-  unfolding rebuildTests setOk disks
-  set-report = tests-set C L S (length stripe) (disksReport C L S stripe)
-
-  pub size-report : lengthOk L ≡ true → ltb S (2 ^ (k + m)) ≡ true → length stripe ≢ (k + m) * L → refused 7 [] ≡ rebuildTests C L S stripe
-  unfolding rebuildTests setOk disks
-  size-report = tests-size C L S (length stripe) (disksReport C L S stripe)
-
-  pub past-report : Passed C L S (length stripe) → disksReport C L S stripe ≡ rebuildTests C L S stripe
-  unfolding rebuildTests
-  past-report p = sym (tests-past C L S (length stripe) (disksReport C L S stripe) p)
+-- the tests come first
+pub tests-report : (k m : ℕ) (columns : List ℕ) (L S : ℕ) (stripe : List ℕ) (r : Report)
+    → r ≡ stripeTests (code k m columns) L S (length stripe) (disksReport (code k m columns) L S stripe) → r ≡ rebuildTests (code k m columns) L S stripe
+unfolding rebuildTests
+tests-report k m columns L S stripe r e = e
 
 pub good-report : (card : List ℕ) (k m L S : ℕ) (stripe : List ℕ) → GoodCard card k m
     → rebuildReport card L S stripe ≡ rebuildTests (codeIn k m (columnBytes card)) L S stripe

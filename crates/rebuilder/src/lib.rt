@@ -1,9 +1,8 @@
 // The rebuilder: lost strips out of the survivors.
 //
 // Every byte string, length, set and stripe is a legal argument. What is answered for which input, and
-// what is left in the stripe, is said in flat/specs/Faults.antt. What the survivors tell is found on sets
-// (crate repairs); the strips are read and written by these sets alone (crate strips), and no byte is
-// written before every refusal is decided.
+// what is left in the stripe, is said in flat/specs/Faults.antt. No byte is written before every refusal is
+// decided.
 ghost use mathlib.Core.Path.{_≡_};
 ghost use Prim.Native.Nat.{_+_, _*_, _^_, _<_, _≤_};
 ghost use lib.ListN.{length};
@@ -14,6 +13,7 @@ ghost use Rattle.card.specs.Columns.{Columns};
 ghost use Rattle.rebuilder.specs.Reports.{report};
 use card::CardCheck;
 use card::CardFault;
+use restorer::StripeTest;
 
 // The rebuilder's answer: how many disks were lost, the card's fault, a strip length that is none, a set
 // with a disk that the code lacks, a stripe of another length, a fatal set, or survivors of no content.
@@ -27,26 +27,20 @@ pub enum Rebuilt {
     Inconsistent,
 }
 
-// The rebuilder past the tests of its arguments. The set is fatal where some disk stays undetermined, and
-// no content encodes to the survivors where a check word among them does not vanish. Else each lost strip
-// is filled by its equation.
+// The rebuilder past the tests of its arguments: the set is fatal where some disk stays undetermined; else all
+// lost strips are restored where some content agrees with the survivors.
 fn restore(columns: &[u8], k: usize, m: usize, l: usize, lost: u32, stripe: &mut [u8]) -> Rebuilt
     requires { ⌜ Columns k m (now columns) ⌝ }
     requires { ⌜ (1 ≤ l) × (l ≤ 65536) × (lost < 2 ^ (k + m)) × (length (now stripe) ≡ (k + m) * l) ⌝ }
     ensures { λ r. ⌜ report r ≡ disksReport (codeIn k m (now (columns .entry))) l lost (now (stripe .entry)) ⌝ }
     ensures { λ r. ⌜ now (stripe .exit) ≡ unlessRefused (report r) (restored (codeIn k m (now (columns .entry))) l lost (now (stripe .entry)) (agreeing (codeIn k m (now (columns .entry))) l lost (now (stripe .entry)))) (now (stripe .entry)) ⌝ }
 {
-    let n = k + m;
     if repairs::undetermined(bases::rows(columns, k, m), lost) != 0 {
         return Rebuilt::Fatal;
     }
-    let checks = bases::checks(columns, k, m);
-    let left = gf2::survivors(n, lost);
-    if !strips::all_vanish(stripe, l, n, gf2::within(checks, left)) {
+    if !restorer::restore(columns, k, m, l, lost, lost, stripe) {
         return Rebuilt::Inconsistent;
     }
-    let equations = repairs::equations(checks, n, left, lost);
-    strips::fill(stripe, l, n, lost, equations);
     let count = gf2::size(lost);
     Rebuilt::Disks(count)
 }
@@ -64,16 +58,12 @@ fn rebuild_columns(
     ensures { λ r. ⌜ report r ≡ rebuildTests (codeIn k m (now (columns .entry))) l lost (now (stripe .entry)) ⌝ }
     ensures { λ r. ⌜ now (stripe .exit) ≡ unlessRefused (report r) (restored (codeIn k m (now (columns .entry))) l lost (now (stripe .entry)) (agreeing (codeIn k m (now (columns .entry))) l lost (now (stripe .entry)))) (now (stripe .entry)) ⌝ }
 {
-    if !card::length_ok(l) {
-        return Rebuilt::StripLength;
+    match restorer::tested(k, m, l, lost, stripe.len()) {
+        StripeTest::StripLength => Rebuilt::StripLength,
+        StripeTest::OutsideSet => Rebuilt::OutsideSet,
+        StripeTest::StripeLength => Rebuilt::StripeLength,
+        StripeTest::Passed => restore(columns, k, m, l, lost, stripe),
     }
-    if !gf2::below(lost, (k + m) as u32) {
-        return Rebuilt::OutsideSet;
-    }
-    if stripe.len() != (k + m) * l {
-        return Rebuilt::StripeLength;
-    }
-    restore(columns, k, m, l, lost, stripe)
 }
 
 // The rebuilder: the lost strips become those of the only content that agrees with the survivors.

@@ -14,8 +14,6 @@ use Rattle.flat.specs.Lists.{padded, tabulate}
 use Rattle.flat.specs.Repairs.{holder}
 use Rattle.flat.proofs.Lists.{tabulate-cong, fill-end}
 
--- ---- the survivors
-
 -- ---- the first of n rows that holds disk d, where those before row i do not
 
 module _ (d n : ℕ) (rows : List ℕ) where
@@ -34,13 +32,13 @@ module _ (d n : ℕ) (rows : List ℕ) where
 
 -- ---- the table of equations
 
--- what the loop fills in at each lost disk below n, and 0 at the other places
-pub table-end : (n lost : ℕ) (E : ℕ → ℕ) → n ≤ 32
-    → padded 32 (tabulate n (λ d. if has lost d then E d else 0)) ≡ tabulate 32 (λ d. if ltb d n && has lost d then E d else 0)
-table-end n lost E h =
-    fill-end 32 n (λ d. if has lost d then E d else 0) h
-    ∙ tabulate-cong 32 (λ d. if ltb d n then (if has lost d then E d else 0) else 0) (λ d. if ltb d n && has lost d then E d else 0)
-    (λ d l. go (ltb d n) (has lost d) (E d))
+-- what the loop fills in at each target below n, and 0 at the other places
+pub table-end : (n targets : ℕ) (E : ℕ → ℕ) → n ≤ 32
+    → padded 32 (tabulate n (λ d. if has targets d then E d else 0)) ≡ tabulate 32 (λ d. if ltb d n && has targets d then E d else 0)
+table-end n targets E h =
+    fill-end 32 n (λ d. if has targets d then E d else 0) h
+    ∙ tabulate-cong 32 (λ d. if ltb d n then (if has targets d then E d else 0) else 0) (λ d. if ltb d n && has targets d then E d else 0)
+    (λ d l. go (ltb d n) (has targets d) (E d))
   where
     go : (a b : Bool) (x : ℕ) → (if a then (if b then x else 0) else 0) ≡ (if a && b then x else 0)
     go true b x = refl

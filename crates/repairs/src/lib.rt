@@ -49,12 +49,12 @@ fn equation_in(checks: Basis, left: u32, d: usize) -> u32
     gf2::outside(holder(gf2::within(checks, left ^ disk), d), disk)
 }
 
-// The same where d is lost; the empty set where it is not.
-fn equation_if_lost(checks: Basis, left: u32, lost: u32, d: usize) -> u32
+// The same where d is a target; the empty set where it is not.
+fn equation_if_target(checks: Basis, left: u32, targets: u32, d: usize) -> u32
     requires { ⌜ (checks .count ≤ 16) × (d < 32) ⌝ }
-    ensures { λ r. ⌜ r ≡ (if has lost d then equationIn (take (checks .count) (checks .rows)) left d else 0) ⌝ }
+    ensures { λ r. ⌜ r ≡ (if has targets d then equationIn (take (checks .count) (checks .rows)) left d else 0) ⌝ }
 {
-    if gf2::has(lost, d as u32) {
+    if gf2::has(targets, d as u32) {
         equation_in(checks, left, d)
     } else {
         0
@@ -62,14 +62,14 @@ fn equation_if_lost(checks: Basis, left: u32, lost: u32, d: usize) -> u32
 }
 
 // The same of each disk below n, at its place. Where the disks that are left are the survivors, that of a
-// disk that they determine is an equation, and that of an undetermined disk is empty.
-pub fn equations(checks: Basis, n: usize, left: u32, lost: u32) -> [u32; 32]
+// lost disk that they determine is an equation, and that of an undetermined disk is empty.
+pub fn equations(checks: Basis, n: usize, left: u32, targets: u32) -> [u32; 32]
     requires { ⌜ (checks .count ≤ 16) × (n ≤ 32) ⌝ }
-    ensures { λ r. ⌜ r ≡ tabulate 32 (λ d. if ltb d n && has lost d then equationIn (take (checks .count) (checks .rows)) left d else 0) ⌝ }
+    ensures { λ r. ⌜ r ≡ tabulate 32 (λ d. if ltb d n && has targets d then equationIn (take (checks .count) (checks .rows)) left d else 0) ⌝ }
 {
     let mut out = [0u32; 32];
     for d in 0..n {
-        out[d] = equation_if_lost(checks, left, lost, d);
+        out[d] = equation_if_target(checks, left, targets, d);
     }
     out
 }

@@ -1,19 +1,16 @@
 -- The verdict's report at each way out, and for a good card and a bad one.
 -- Assumes nothing.
-use mathlib.Core.Path.{_≡_, sym}
+use mathlib.Core.Path.{_≡_, sym, _∙_}
 use mathlib.Core.Bool.{true, false}
 use mathlib.Core.List.{List, [], _∷_}
-use mathlib.Core.Logic.{_≢_}
 use Prim.Native.Nat.{ℕ, _+_, _^_}
 use lib.Dec.{ltb}
 use Rattle.gf2.specs.Sets.{union}
 use Rattle.gf2.specs.Within.{within}
-use Rattle.gf2.proofs.Tests.{T-true, T-false}
 use Rattle.flat.specs.Cards.{code, disks, setOk, columnBytes, codeIn}
-use Rattle.flat.specs.Erasures.{fatal}
 use Rattle.flat.specs.Spans.{rows}
-use Rattle.flat.specs.Faults.{accepted, refused, yesNo, cardReport, verdictTests, verdictReport}
-use Rattle.repairs.proofs.Callers.{undetermined-fatal}
+use Rattle.flat.specs.Faults.{accepted, refused, cardReport, verdictTests, verdictReport}
+use Rattle.repairs.proofs.Callers.{undetermined-is}
 use Rattle.card.specs.declared.CardFault.{CardFault}
 use Rattle.card.specs.declared.CardCheck.the-variants.{Bad}
 use Rattle.card.specs.Reports.{faultReport, report as checkReport}
@@ -24,16 +21,10 @@ module _ (k m : ℕ) (columns : List ℕ) (S : ℕ) where
   unfolding verdictTests setOk disks
   outside e = simp e
 
-  module _ (inside : ltb S (2 ^ (k + m)) ≡ true) (bs : List ℕ) (r : ℕ) (is : bs ≡ rows (code k m columns)) (e : r ≡ union (within S bs)) where
-    pub yes-report : r ≢ 0 → accepted (1 ∷ []) ≡ verdictTests (code k m columns) S
-    unfolding verdictTests setOk disks yesNo
-    yes-report f =
-        let C = code k m columns in simp (inside, T-true {b = fatal C S} (undetermined-fatal C S bs r is e .1 f))
-
-    pub no-report : r ≡ 0 → accepted (0 ∷ []) ≡ verdictTests (code k m columns) S
-    unfolding verdictTests setOk disks yesNo
-    no-report z =
-        let C = code k m columns in simp (inside, T-false {b = fatal C S} (λ t. undetermined-fatal C S bs r is e .0 t z))
+  pub undetermined-report : ltb S (2 ^ (k + m)) ≡ true → (bs : List ℕ) (r : ℕ) → bs ≡ rows (code k m columns) → r ≡ union (within S bs)
+      → accepted (r ∷ []) ≡ verdictTests (code k m columns) S
+  unfolding verdictTests setOk disks
+  undetermined-report inside bs r is e = let C = code k m columns in simp (inside, e ∙ undetermined-is C S bs is)
 
 pub good-report : (card : List ℕ) (k m S : ℕ) → GoodCard card k m → verdictTests (codeIn k m (columnBytes card)) S ≡ verdictReport card S
 unfolding verdictReport

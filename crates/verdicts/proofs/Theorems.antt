@@ -14,11 +14,10 @@ use Rattle.verdicts.specs.Theorems.{VerdictInjective}
 abbrev verdictFrom : Report → SetVerdict
 verdictFrom r =
     carried r verdict.Card
-    (if eqb (r .number) 8 then verdict.OutsideSet else if eqb (getD (r .values) 0 0) 1 then verdict.Fatal else verdict.Recoverable)
+    (if eqb (r .number) 8 then verdict.OutsideSet else verdict.Undetermined (getD (r .values) 0 0))
 
 verdict-back : (a : SetVerdict) → verdictFrom (report a) ≡ a
-verdict-back verdict.Fatal = refl
-verdict-back verdict.Recoverable = refl
+verdict-back (verdict.Undetermined U) = refl
 verdict-back (verdict.Card f) = carried-back f verdict.Card _
 verdict-back verdict.OutsideSet = refl
 

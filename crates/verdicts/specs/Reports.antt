@@ -1,4 +1,4 @@
--- Document 01's number and values for each case of the verdict call's answer.
+-- The documents' number and values for each case of the verdict call's answer.
 -- Assumes nothing.
 use mathlib.Core.List.{[], _∷_}
 use Rattle.flat.specs.Faults.{Report, accepted, refused}
@@ -7,7 +7,6 @@ use Rattle.verdicts.specs.declared.SetVerdict.{SetVerdict}
 use Rattle.verdicts.specs.declared.SetVerdict.the-variants as verdict
 
 abbrev pub report : SetVerdict → Report
-report verdict.Fatal = accepted (1 ∷ [])
-report verdict.Recoverable = accepted (0 ∷ [])
+report (verdict.Undetermined U) = accepted (U ∷ [])
 report (verdict.Card f) = faultReport f
 report verdict.OutsideSet = refused 8 []

@@ -1,4 +1,4 @@
-// The verdict on one set of disks: whether its loss is fatal.
+// The verdict on one set of disks: which of them the survivors of its loss don't determine.
 //
 // Every byte string and set is a legal argument. What is answered for which input is said in
 // flat/specs/Faults.antt.
@@ -10,15 +10,15 @@ ghost use Rattle.verdicts.specs.Reports.{report};
 use card::CardCheck;
 use card::CardFault;
 
-// The verdict call's answer: fatal or not, the card's fault, or a set with a disk that the code lacks.
+// The verdict call's answer: the disks of the set that the survivors don't determine, the card's fault, or a
+// set with a disk that the code lacks.
 pub enum SetVerdict {
-    Fatal,
-    Recoverable,
+    Undetermined(u32),
     Card(CardFault),
     OutsideSet,
 }
 
-// The verdict, on the columns of an accepted card: a set is fatal where some disk stays undetermined.
+// The verdict, on the columns of an accepted card.
 fn verdict_columns(columns: &[u8], k: usize, m: usize, set: u32) -> SetVerdict
     requires { ⌜ Columns k m (now columns) ⌝ }
     ensures { λ r. ⌜ report r ≡ verdictTests (codeIn k m (now (columns .entry))) set ⌝ }
@@ -26,13 +26,11 @@ fn verdict_columns(columns: &[u8], k: usize, m: usize, set: u32) -> SetVerdict
     if !gf2::below(set, (k + m) as u32) {
         return SetVerdict::OutsideSet;
     }
-    if repairs::undetermined(bases::rows(columns, k, m), set) != 0 {
-        return SetVerdict::Fatal;
-    }
-    SetVerdict::Recoverable
+    let undetermined = repairs::undetermined(bases::rows(columns, k, m), set);
+    SetVerdict::Undetermined(undetermined)
 }
 
-// The verdict call: whether the loss of the set is fatal.
+// The verdict call: the disks of the set that the survivors don't determine. Its loss is fatal where there is one.
 pub fn verdict(card: &[u8], set: u32) -> SetVerdict
     ensures { λ r. ⌜ report r ≡ verdictReport (now (card .entry)) set ⌝ }
 {

@@ -15,18 +15,18 @@ use Rattle.repairs.proofs.equations.Statement.{statement}
 use Rattle.repairs.proofs.equations.Tie as tie
 
 abbrev Inv-loop : tie.InvT-loop
-Inv-loop checks n left lost out₀ d₀ out d =
+Inv-loop checks n left targets out₀ d₀ out d =
     (d ≤ n) × (length out ≡ 32)
-    × (out ≡ padded 32 (tabulate d (λ i. if has lost i then equationIn (take (checks .count) (checks .rows)) left i else 0)))
+    × (out ≡ padded 32 (tabulate d (λ i. if has targets i then equationIn (take (checks .count) (checks .rows)) left i else 0)))
 
 abbrev μ-loop : tie.MeasureT-loop
-μ-loop checks n left lost out₀ d₀ out d = n - d
+μ-loop checks n left targets out₀ d₀ out d = n - d
 
 loop-holds : tie.Need-loop-holds Inv-loop μ-loop
 loop-holds c = (omega arith, refl, fill-none 32 _)
 
-equation-if-lost-requires : tie.Need-equation-if-lost-requires Inv-loop μ-loop
-equation-if-lost-requires c κs = search needs
+equation-if-target-requires : tie.Need-equation-if-target-requires Inv-loop μ-loop
+equation-if-target-requires c κs = search needs
 
 mul-out : tie.Need-mul-out Inv-loop μ-loop
 mul-out c = search needs
@@ -43,14 +43,14 @@ loop-less c = search needs
 loop-again : tie.Need-loop-again Inv-loop μ-loop
 loop-again c =
     let l = c .before .before .loop in
-    (search needs, search needs, fill-more 32 (l .d) _ _ (l .out) (search needs) (l .inv .2) (c .equation-if-lost .ensures))
+    (search needs, search needs, fill-more 32 (l .d) _ _ (l .out) (search needs) (l .inv .2) (c .equation-if-target .ensures))
 
 returns : tie.Need-returns Inv-loop μ-loop
 returns c =
     let l = c .before .loop in
     let a = c .before .before .args in
     let e : l .d ≡ a .n = omega arith in
-    (rw e at (l .inv .2)) ∙ table-end (a .n) (a .lost) (equationIn _ (a .left)) (c .before .before .pre .1)
+    (rw e at (l .inv .2)) ∙ table-end (a .n) (a .targets) (equationIn _ (a .left)) (c .before .before .pre .1)
 
 pub equations-spec : {M : Type 1} → statement M
 equations-spec =
@@ -59,7 +59,7 @@ equations-spec =
     Inv-loop
     μ-loop
     loop-holds
-    equation-if-lost-requires
+    equation-if-target-requires
     mul-out
     array-write-out
     add-d

@@ -7,7 +7,7 @@ use lib.Dec.{ltb}
 use borrow.Author.Needs.{needs}
 use borrow.Author.Tests.{not-true, not-false}
 use Rattle.bases.proofs.Systematic.{taken}
-use Rattle.verdicts.proofs.Laws.{outside, yes-report, no-report}
+use Rattle.verdicts.proofs.Laws.{outside, undetermined-report}
 use Rattle.verdicts.proofs.verdict_columns.Statement.{statement}
 use Rattle.verdicts.proofs.verdict_columns.Tie as tie
 
@@ -35,15 +35,8 @@ undetermined-requires c κs = search needs
 
 returns-2 : tie.Need-returns-2
 returns-2 c =
-    let b = c .before .before .rows in
-    yes-report _ _ _ _ (inside (c .before .before .before)) _ _ (taken _ _ _ _ (b .ensures .0) (b .ensures .1)) (c .before .undetermined .ensures)
-    (c .if2 .taken)
-
-returns-3 : tie.Need-returns-3
-returns-3 c =
-    let b = c .before .before .rows in
-    no-report _ _ _ _ (inside (c .before .before .before)) _ _ (taken _ _ _ _ (b .ensures .0) (b .ensures .1)) (c .before .undetermined .ensures)
-    (c .if2 .left)
+    let b = c .before .rows in
+    undetermined-report _ _ _ _ (inside (c .before .before)) _ _ (taken _ _ _ _ (b .ensures .0) (b .ensures .1)) (c .undetermined .ensures)
 
 pub verdict-columns-spec : {M : Type 1} → statement M
 verdict-columns-spec =
@@ -55,5 +48,4 @@ verdict-columns-spec =
     returns
     rows-requires
     undetermined-requires
-    returns-2
-    returns-3)
+    returns-2)

@@ -1,9 +1,9 @@
--- `repairs::equation_if_lost` meets its contract, by the two cases of the test.
+-- `repairs::equation_if_target` meets its contract, by the two cases of the test.
 -- Assumes nothing.
 use mathlib.Core.Path.{sym, _∙_}
 use borrow.Author.Needs.{needs}
-use Rattle.repairs.proofs.equation_if_lost.Statement.{statement}
-use Rattle.repairs.proofs.equation_if_lost.Tie as tie
+use Rattle.repairs.proofs.equation_if_target.Statement.{statement}
+use Rattle.repairs.proofs.equation_if_target.Tie as tie
 
 cast-has : tie.Need-cast-has
 cast-has c = search needs
@@ -20,6 +20,6 @@ returns c = rw (sym (c .before .before .has .ensures) ∙ c .before .if1 .taken)
 returns-2 : tie.Need-returns-2
 returns-2 c = rw (sym (c .before .has .ensures) ∙ c .if1 .left)
 
-pub equation-if-lost-spec : {M : Type 1} → statement M
-equation-if-lost-spec =
+pub equation-if-target-spec : {M : Type 1} → statement M
+equation-if-target-spec =
     tie.close (tie.spec cast-has has-requires equation-in-requires returns returns-2)

@@ -1,0 +1,4 @@
+pub mod Differing
+pub mod Calls
+pub mod Whole
+pub mod Impostors

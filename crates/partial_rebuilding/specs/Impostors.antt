@@ -1,0 +1,46 @@
+-- Wrong verdicts and wrong partial rebuilds, each told from the request's by a value. The proofs are those of proofs/Impostors.antt.
+-- Assumes nothing.
+use mathlib.Core.Path.{_≡_}
+use mathlib.Core.List.{List, [], _∷_}
+use Prim.Native.Nat.{ℕ}
+use lib.Dec.{T}
+use Rattle.flat.specs.Cards.{codeOf}
+use Rattle.flat.specs.Erasures.{fatal, undeterminedSet}
+use Rattle.flat.specs.Faults.{accepted, refused, verdictReport, rebuildReport}
+use Rattle.partial_rebuilding.specs.Faults.{partialReport, partialStripe}
+
+-- the cards of C1 and C6
+abbrev pub C1 : List ℕ
+C1 = 4 ∷ 3 ∷ 7 ∷ 0 ∷ 11 ∷ 0 ∷ 13 ∷ 0 ∷ []
+
+abbrev pub C6 : List ℕ
+C6 = 2 ∷ 1 ∷ 1 ∷ 0 ∷ []
+
+-- A verdict that is always empty, or the whole set where it is fatal: of C1's set 15 disk 0 is determined, and of C6's set 6 disk 2; of C1's set 127
+-- none is. Or a verdict that takes a disk which the code lacks.
+pub record VerdictTold : Type 0 where
+  pub fatal-15 : T (fatal (codeOf C1) 15)
+  pub some-15 : undeterminedSet (codeOf C1) 15 ≡ 14
+  pub some-6 : undeterminedSet (codeOf C6) 6 ≡ 2
+  pub all-127 : undeterminedSet (codeOf C1) 127 ≡ 127
+  pub outside-128 : verdictReport C1 128 ≡ refused 8 []
+
+-- 11 where the set is fatal, restoring nothing, 0 where nothing can be restored: C7's stripe, with other bytes in the four lost data strips. Disk 0 gets
+-- its byte 17 again, and disks 1, 2 and 3 keep theirs.
+abbrev pub lost-four : List ℕ
+lost-four = 99 ∷ 98 ∷ 97 ∷ 96 ∷ 119 ∷ 187 ∷ 221 ∷ []
+
+pub record BringsBackOne : Type 0 where
+  pub rebuild : rebuildReport C1 1 15 lost-four ≡ refused 11 []
+  pub answer : partialReport C1 1 15 lost-four ≡ accepted (14 ∷ [])
+  pub stripe : partialStripe C1 1 15 lost-four ≡ 17 ∷ 98 ∷ 97 ∷ 96 ∷ 119 ∷ 187 ∷ 221 ∷ []
+
+-- Restoring data disks alone: of C6, disks 1 and 2 are lost; the parity, disk 2, becomes disk 0's byte.
+pub record BringsBackParity : Type 0 where
+  pub answer : partialReport C6 1 6 (5 ∷ 9 ∷ 7 ∷ []) ≡ accepted (2 ∷ [])
+  pub stripe : partialStripe C6 1 6 (5 ∷ 9 ∷ 7 ∷ []) ≡ 5 ∷ 9 ∷ 5 ∷ []
+
+-- No look at the survivors of a fatal set: of C6, disk 1 is lost and in no column; disks 0 and 2, which hold the same, differ.
+pub record TwelveIfFatal : Type 0 where
+  pub rebuild : rebuildReport C6 1 2 (5 ∷ 9 ∷ 6 ∷ []) ≡ refused 11 []
+  pub answer : partialReport C6 1 2 (5 ∷ 9 ∷ 6 ∷ []) ≡ refused 12 []
