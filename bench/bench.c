@@ -5,6 +5,7 @@ int main(void)
 {
     bench_lists();
     bench_stripes();
+    bench_partials();
     bench_trays();
     bench_updates();
     bench_records();

@@ -1,4 +1,4 @@
-/* What the benchmarks share, and the five that bench.c runs one after the other. */
+/* What the benchmarks share, and the six that bench.c runs one after the other. */
 #ifndef BENCH_H
 #define BENCH_H
 
@@ -8,6 +8,7 @@
 
 void bench_lists(void);
 void bench_stripes(void);
+void bench_partials(void);
 void bench_trays(void);
 void bench_updates(void);
 void bench_records(void);

@@ -10,7 +10,7 @@ struct job {
     size_t card_len, strip_len;
     uint8_t *stripe;
     size_t stripe_len;
-    uint32_t lost; /* data disks only */
+    uint32_t lost; /* data disks only where the libraries take part */
 };
 
 static inline uint32_t job_column(const struct job *job, int j)

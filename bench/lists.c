@@ -117,7 +117,8 @@ static double compare_equations(const char *name, const uint8_t *card, int disk)
 /* the verdicts on SETS sets of m disks */
 static double compare_verdicts(const char *name, const uint8_t *card)
 {
-    static uint32_t sets[SETS], peers_say[SETS], engines_say[SETS];
+    static uint32_t sets[SETS], peers_say[SETS];
+    static uint64_t engines_say[SETS];
     size_t length = 2 + 2 * (size_t)card[1], fatal = 0;
     int n = card[0] + card[1];
     struct times least = {1e9, 1e9};
@@ -130,13 +131,13 @@ static double compare_verdicts(const char *name, const uint8_t *card)
             peers_say[i] = peer_verdict(card, sets[i]);
         double middle = now();
         for (int i = 0; i < SETS; i++)
-            engines_say[i] = (uint32_t)bridgecrumb_verdict(card, length, sets[i]);
+            engines_say[i] = bridgecrumb_verdict(card, length, sets[i]);
         keep_least(&least, start, middle, now());
         fatal = 0;
         for (int i = 0; i < SETS; i++) {
-            if (engines_say[i] != 256 * peers_say[i])
+            if (engines_say[i] != 256 * (uint64_t)peers_say[i])
                 stop("the verdicts differ");
-            fatal += peers_say[i];
+            fatal += peers_say[i] != 0;
         }
     }
     return print_row(name, card, fatal, least);
@@ -165,8 +166,8 @@ static void check_answers(const uint8_t *card)
         stop("an empty column is not named");
     if (bridgecrumb_equations(card, length, card[0] + card[1], out, 1) != 9 || out[0] != 7)
         stop("a disk that the code lacks is not refused by 9");
-    if (bridgecrumb_verdict(card, length, engines[0]) != 256)
-        stop("an entry is not fatal");
+    if (bridgecrumb_verdict(card, length, engines[0]) != 256 * (uint64_t)engines[0])
+        stop("a disk of an entry is determined");
     if (bridgecrumb_verdict(card, length, engines[0] & (engines[0] - 1)) != 0)
         stop("an entry without a disk is fatal");
 }

@@ -1,4 +1,5 @@
-/* Two encoders, a peeler and an update as one would write them in plain C. plain_update checks the card and its arguments, the others nothing. */
+/* Two encoders, a peeler, an update and a partial rebuild as one would write them in plain C. The last two check the card and their arguments, the
+ * others nothing. */
 #ifndef PLAIN_H
 #define PLAIN_H
 
@@ -20,5 +21,9 @@ size_t update_loops(struct job *job, int disk, const uint8_t *new_strip);
 
 /* the same with the refusals of bridgecrumb_update, in its order and with its answers */
 uint64_t plain_update(struct job *job, size_t disk, const uint8_t *new_strip, size_t new_len);
+
+/* clears the checks by elimination, so that each lost disk is in as few as can be; sees that the XOR of each check among the survivors is 0; and
+ * mends each lost disk that is the only lost one of a check. With the refusals of bridgecrumb_partial_rebuild, in its order and with its answers */
+uint64_t plain_partial_rebuild(struct job *job);
 
 #endif

@@ -1,7 +1,7 @@
 /* The calls of libbridgecrumb.a, for C and C++. `rt staticlib bridgecrumb` writes the archive.
  *
  * An answer is one number: the documents' number of the refusal, 0 where the call is accepted, plus 256
- * times the one value that is named for it (a column, a count, a length). BRIDGECRUMB_NUMBER and
+ * times the one value that is named for it (a column, a count, a length, a set). BRIDGECRUMB_NUMBER and
  * BRIDGECRUMB_VALUE take it apart. Further values go into arrays that the caller lends.
  *
  * A refused call changes no lent byte. Every byte string, number, set and length is a legal argument. The
@@ -72,7 +72,8 @@ uint64_t bridgecrumb_alike(const uint8_t *first, size_t first_len, const uint8_t
 uint64_t bridgecrumb_encode(const uint8_t *card, size_t card_len, size_t strip_len, uint8_t *stripe, size_t stripe_len);
 
 /* Takes a card and a set of disks.
- * The value is 1 where the loss of the set is fatal, and 0 where it is not.
+ * The value is the set of its disks that the other disks, the survivors, don't determine: those on which two data words differ that are
+ * alike on the survivors. The loss of the set is fatal where the value is not 0.
  * Refuses 1 to 5, then 8. */
 uint64_t bridgecrumb_verdict(const uint8_t *card, size_t card_len, uint32_t set);
 
@@ -91,6 +92,13 @@ uint64_t bridgecrumb_equations(const uint8_t *card, size_t card_len, size_t disk
  * Writes the lost strips, those that the survivors tell; the value is how many disks are lost.
  * Refuses 1 to 5, then 6, 8, 7, 11, 12. */
 uint64_t bridgecrumb_rebuild(const uint8_t *card, size_t card_len, size_t strip_len, uint32_t lost, uint8_t *stripe, size_t stripe_len);
+
+/* Takes a card, a set of lost disks, fatal or not, and a stripe.
+ * Writes the lost strips that the survivors determine; the value is the set of the lost disks that they don't determine, as
+ * bridgecrumb_verdict answers it, and the strips of these keep their bytes. Where the value is 0, the stripe becomes what bridgecrumb_rebuild
+ * makes of it.
+ * Refuses 1 to 5, then 6, 8, 7, 12: never 11, and 12 for a fatal set too. */
+uint64_t bridgecrumb_partial_rebuild(const uint8_t *card, size_t card_len, size_t strip_len, uint32_t lost, uint8_t *stripe, size_t stripe_len);
 
 /* Takes a card, a list of 1 to 8 sets of lost disks, a budget of steps and a tray: for each set its stripe, one
  * after the other. A step takes the lowest lost disk that is the only lost member of some parity's check, that

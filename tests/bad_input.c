@@ -10,6 +10,9 @@
 
 static const uint8_t c1[] = {4, 3, 7, 0, 11, 0, 13, 0}, c3[] = {2, 2, 1, 0, 2, 0}, c4[] = {1, 2, 1, 0, 1, 0}, c6[] = {2, 1, 1, 0};
 static const uint8_t c7[] = {0x11, 0x22, 0x44, 0x88, 0x77, 0xbb, 0xdd}; /* a stripe of C1 */
+static const uint8_t most[34] = {16, 16, 1, 0, 1, 0, 1, 0, 1, 0, 1, 0, 1, 0, 1, 0, 1,
+                                 0,  1,  0, 1, 0, 1, 0, 1, 0, 1, 0, 1, 0, 1, 0, 1, 0}; /* 32 disks */
+static const uint8_t wrong[] = {17, 1, 1, 0, 2, 2, 1, 0, 4, 0}; /* a card of 17 data disks, one of no parity disk, one whose column 1 is wrong */
 static const uint16_t columns[] = {7, 11, 13, 1}, wrong_columns[] = {7, 16, 0};
 static uint8_t record[104]; /* of C1 with that stripe and disk 2 lost */
 
@@ -73,8 +76,13 @@ static void cards(void)
 
 static void sets(void)
 {
-    TRY(0, 1, verdict(c1, 8, 14));
+    TRY(0, 14, verdict(c1, 8, 14));
+    TRY(0, 14, verdict(c1, 8, 15)); /* disk 0 is determined */
+    TRY(0, 127, verdict(c1, 8, 127));
     TRY(0, 0, verdict(c1, 8, 7));
+    TRY(0, 0, verdict(c1, 8, 0));
+    TRY(0, 2, verdict(c6, 4, 6));                      /* a disk in no column */
+    TRY(0, 0xffffffff, verdict(most, 34, 0xffffffff)); /* every disk of 32 */
     TRY(1, 0, verdict(NULL, 0, 0xffffffff));
     TRY(8, 0, verdict(c1, 8, 0x80));
     TRY(8, 0, verdict(c1, 8, 0xffffffff));
@@ -109,6 +117,31 @@ static void stripes(void)
     TRY(11, 0, rebuild(c1, 8, 1, 14, lent.stripe, 7)); /* C10 */
     TRY(11, 0, rebuild(c3, 6, 1, 15, lent.stripe, 4));
     TRY(12, 0, rebuild(c3, 6, 1, 1, lent.stripe, 4)); /* disk 1 and its mirror differ */
+}
+
+static void partial_rebuilds(void)
+{
+    TRY(0, 14, partial_rebuild(c1, 8, 1, 15, lent.stripe, 7));
+    TRY(0, 14, partial_rebuild(c1, 8, 1, 14, lent.stripe, 7)); /* C10's loss, and no 11 */
+    TRY(0, 127, partial_rebuild(c1, 8, 1, 127, lent.stripe, 7));
+    TRY(0, 0, partial_rebuild(c1, 8, 1, 7, lent.stripe, 7));
+    TRY(0, 0, partial_rebuild(c1, 8, 1, 0, lent.stripe, 7)); /* nothing lost: a check */
+    TRY(0, 0xffffffff, partial_rebuild(most, 34, 1, 0xffffffff, lent.out, 32));
+    TRY(1, 0, partial_rebuild(NULL, 0, 0, 0xffffffff, NULL, 0));
+    TRY(2, 0, partial_rebuild(wrong, 4, 0, 0xffffffff, NULL, 0));
+    TRY(3, 0, partial_rebuild(wrong + 2, 4, 0, 0xffffffff, NULL, 0));
+    TRY(4, 0, partial_rebuild(c1, 7, 0, 0xffffffff, NULL, 0));
+    TRY(5, 1, partial_rebuild(wrong + 4, 6, 0, 0xffffffff, NULL, 0));
+    TRY(6, 0, partial_rebuild(c1, 8, 0, 0xffffffff, NULL, 0));
+    TRY(6, 0, partial_rebuild(c1, 8, SIZE_MAX, 0xffffffff, NULL, 0));
+    TRY(6, 0, partial_rebuild(c3, 6, ((size_t)1 << 62) + 1, 15, lent.stripe, 4)); /* four times L is 4 in 64 bits */
+    TRY(8, 0, partial_rebuild(c1, 8, 1, 0x80, NULL, 0));
+    TRY(8, 0, partial_rebuild(c1, 8, 1, 0xffffffff, lent.stripe, 7));
+    TRY(7, 0, partial_rebuild(c1, 8, 1, 14, NULL, 0));
+    TRY(7, 0, partial_rebuild(c1, 8, 1, 15, lent.stripe, 6));
+    TRY(7, 0, partial_rebuild(c1, 8, 1, 15, lent.stripe, 8));
+    TRY(12, 0, partial_rebuild(c3, 6, 1, 1, lent.stripe, 4)); /* disk 1 and its mirror differ */
+    TRY(12, 0, partial_rebuild(c3, 6, 1, 5, lent.stripe, 4)); /* in a fatal loss too */
 }
 
 static void trays(void)
@@ -175,6 +208,7 @@ int main(void)
     cards();
     sets();
     stripes();
+    partial_rebuilds();
     trays();
     updates();
     records();

@@ -38,6 +38,8 @@ JUDGED = [
     (DENSE, 0xFFFFFFFF),
     (DENSE, 0xFFFF0000),
     (DENSE, 0x8000FFFF),
+    (C1, 15),  # disk 0 is determined, disks 1 to 3 are not
+    (C6, 6),  # the parity is determined, disk 1 is not
 ]
 
 FREE = 99  # what the test program puts in each slot first
@@ -63,7 +65,7 @@ def verdict(card, lost):
     k, cols = card[0], reference.columns(card)
     if lost >> k + len(cols):
         return "refused 8"
-    return "fatal" if reference.fatal(k, cols, lost) else "recoverable"
+    return f"undetermined {reference.undetermined(k, cols, lost)}"
 
 
 def told(card, disk, lent):

@@ -1,14 +1,15 @@
 #!/usr/bin/env python3
-"""The listing of a card and the equations of a disk by brute force, straight from document 01's definitions;
-the vector's length is document 02's.
+"""The listing of a card, the undetermined disks of a loss and the equations of a disk by brute force, straight from document 01's definitions;
+the vector's length and the undetermined disks are document 02's.
 
 It shares nothing with the engine: sets are tried one by one, and two data words are compared disk by disk. It is meant for
-codes of some 12 disks at the most.
+codes of some 12 disks at the most; the undetermined disks of one loss are found for any code.
 
     reference.py CARD          the text that the listing program prints for the card in the file CARD
     reference.py --write DIR   writes DIR/NAME.txt for each DIR/NAME.card
     reference.py --count CARD  how many minimal erasures the card has, by a rank for each data word; for any card
 """
+import functools
 import pathlib
 import sys
 
@@ -52,6 +53,21 @@ def fatal(k, cols, lost):
             return True
         seen.add(left)
     return False
+
+
+@functools.lru_cache
+def words(k, cols):
+    """What the disks hold for each data word, bit d for disk d."""
+    return [sum(holds(k, cols, x, d) << d for d in range(k + len(cols))) for x in range(2**k)]
+
+
+def undetermined(k, cols, lost):
+    """The disks on which two data words differ that agree on every disk that is not lost. Words that agree are compared with the first of them:
+    where two differ, one of them differs from it. This goes through the words alone, so it is for any code."""
+    first, differing = {}, 0
+    for word in words(k, tuple(cols)):
+        differing |= word ^ first.setdefault(word & ~lost, word)
+    return differing
 
 
 def minimal_erasures(k, cols):

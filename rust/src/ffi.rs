@@ -40,6 +40,14 @@ extern "C" {
         stripe: *mut u8,
         stripe_len: usize,
     ) -> u64;
+    pub fn bridgecrumb_partial_rebuild(
+        card: *const u8,
+        card_len: usize,
+        strip_len: usize,
+        lost: u32,
+        stripe: *mut u8,
+        stripe_len: usize,
+    ) -> u64;
     pub fn bridgecrumb_quick_repair(
         card: *const u8,
         card_len: usize,
@@ -141,6 +149,13 @@ pub fn equations(card: &[u8], disk: usize, out: &mut [u32]) -> Result<usize, Err
 pub fn rebuild(card: &[u8], strip_len: usize, lost: u32, stripe: &mut [u8]) -> Result<usize, Error> {
     // SAFETY: each slice goes with its own length, whatever strip_len is, and `stripe` is lent to nobody else
     taken(unsafe { bridgecrumb_rebuild(card.as_ptr(), card.len(), strip_len, lost, stripe.as_mut_ptr(), stripe.len()) })
+}
+
+pub fn partial_rebuild(card: &[u8], strip_len: usize, lost: u32, stripe: &mut [u8]) -> Result<usize, Error> {
+    // SAFETY: each slice goes with its own length, whatever strip_len is, and `stripe` is lent to nobody else
+    taken(unsafe {
+        bridgecrumb_partial_rebuild(card.as_ptr(), card.len(), strip_len, lost, stripe.as_mut_ptr(), stripe.len())
+    })
 }
 
 pub fn quick_repair(

@@ -42,5 +42,5 @@ mod strips;
 pub use cards::{alike, read_card, write_card, Card};
 pub use error::Error;
 pub use records::{body, read_record, write_record, Record};
-pub use sets::{equations, is_fatal, minimal_erasures, Listing};
-pub use strips::{encode, quick_repair, rebuild, update, Repair};
+pub use sets::{equations, minimal_erasures, undetermined, Listing};
+pub use strips::{encode, partial_rebuild, quick_repair, rebuild, update, Repair};

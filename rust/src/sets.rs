@@ -1,4 +1,4 @@
-//! The calls on sets of disks: which losses are fatal, and which disks tell a disk.
+//! The calls on sets of disks: which losses are fatal and what they leave undetermined, and which disks tell a disk.
 
 use crate::{ffi, Error};
 
@@ -12,21 +12,24 @@ pub struct Listing {
     pub vector: [usize; 17],
 }
 
-/// Takes a card and a set of disks; answers whether the loss of the set is fatal: two different data words
-/// agree on all other disks.
+/// Takes a card and a set of disks; answers those of them that the other disks, the survivors, don't determine: the
+/// disks on which two data words differ that agree on all survivors. The loss of the set is fatal where the answer is
+/// not 0.
 ///
 /// Refuses 1 to 5, then 8. Writes nothing.
 ///
 /// ```
-/// // C1 and C8 of document 01
+/// // C1 and C8 of document 01; with disks 0 to 3 lost, the parities still tell disk 0
 /// let card = [4, 3, 7, 0, 11, 0, 13, 0];
-/// assert!(bridgecrumb::is_fatal(&card, 14)?);
-/// assert!(bridgecrumb::is_fatal(&card, 127)?);
-/// assert!(!bridgecrumb::is_fatal(&card, 7)?);
+/// assert_eq!(bridgecrumb::undetermined(&card, 7)?, 0);
+/// assert_eq!(bridgecrumb::undetermined(&card, 14)?, 14);
+/// assert_eq!(bridgecrumb::undetermined(&card, 15)?, 14);
+/// assert_eq!(bridgecrumb::undetermined(&card, 127)?, 127);
 /// # Ok::<(), bridgecrumb::Error>(())
 /// ```
-pub fn is_fatal(card: &[u8], set: u32) -> Result<bool, Error> {
-    Ok(ffi::verdict(card, set)? == 1)
+pub fn undetermined(card: &[u8], set: u32) -> Result<u32, Error> {
+    // a part of the set, so it has at most 32 bits
+    Ok(ffi::verdict(card, set)? as u32)
 }
 
 /// Takes a card and a slice; writes all minimal erasures (the fatal sets with no smaller fatal set inside) at

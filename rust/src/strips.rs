@@ -43,6 +43,31 @@ pub fn rebuild(card: &[u8], strip_len: usize, lost: u32, stripe: &mut [u8]) -> R
     ffi::rebuild(card, strip_len, lost, stripe)
 }
 
+/// Takes what [`rebuild`] takes, and the loss may be fatal; writes the strips of the lost disks that the survivors
+/// determine, those of any data that encodes to what the survivors have. Answers the set of the lost disks that they
+/// don't determine, as [`undetermined`](crate::undetermined) does. The strips of these and of the survivors keep their
+/// bytes. The bytes of lost strips before the call affect neither the answer nor a strip that is written. Where the
+/// answer is 0, all lost strips are written, and the stripe is the one that [`rebuild`] leaves.
+///
+/// Refuses 1 to 5, then 6, then 8, then 7 where the stripe's length is not `n * strip_len`, then 12 where no data
+/// encodes to what the surviving disks have, whether the loss is fatal or not; never 11. A refused call writes nothing.
+///
+/// ```
+/// use bridgecrumb::{partial_rebuild, Error};
+/// let card = [4, 3, 7, 0, 11, 0, 13, 0];
+/// // C7's stripe of document 01 without its data: disk 0 is told by the parities, disks 1 to 3 are not
+/// let mut stripe = [0, 1, 2, 3, 0x77, 0xBB, 0xDD];
+/// assert_eq!(partial_rebuild(&card, 1, 0b1111, &mut stripe), Ok(0b1110));
+/// assert_eq!(stripe, [0x11, 1, 2, 3, 0x77, 0xBB, 0xDD]);
+/// // disk 0 is there, and is not what the parities tell
+/// let mut stripe = [0x10, 1, 2, 3, 0x77, 0xBB, 0xDD];
+/// assert_eq!(partial_rebuild(&card, 1, 0b1110, &mut stripe), Err(Error::Inconsistent));
+/// ```
+pub fn partial_rebuild(card: &[u8], strip_len: usize, lost: u32, stripe: &mut [u8]) -> Result<u32, Error> {
+    // a part of the lost set, so it has at most 32 bits
+    Ok(ffi::partial_rebuild(card, strip_len, lost, stripe)? as u32)
+}
+
 /// What quick repair answers.
 #[derive(Debug, Clone, Copy, PartialEq, Eq)]
 pub struct Repair {

@@ -149,6 +149,26 @@ pub fn any_set(choice: &mut Choice, card: &[u8]) -> u32 {
     }
 }
 
+/// A fatal set of a code: a data disk with the parity disks whose columns name it, which are undetermined, and so many other disks.
+pub fn fatal_set(choice: &mut Choice, card: &[u8], others: usize) -> u32 {
+    let (k, m, columns) = reference::read_card(card).expect("a code");
+    let disk = choice.below(k);
+    let naming = (0..m).filter(|&j| columns[j] >> disk & 1 == 1).map(|j| 1 << (k + j));
+    choice.set(k + m, others.min(k + m)) | 1 << disk | naming.sum::<u32>()
+}
+
+/// A loss, fatal about as often as not: none, a fatal set with up to as many other disks as there is parity, or any set.
+pub fn any_loss(choice: &mut Choice, card: &[u8]) -> u32 {
+    match (choice.below(8), reference::read_card(card)) {
+        (0, _) => 0,
+        (1 | 2, Ok((_, m, _))) => {
+            let others = choice.below(m + 1);
+            fatal_set(choice, card, others)
+        }
+        _ => any_set(choice, card),
+    }
+}
+
 /// A disk of the code, or one that it lacks, by a little, by far, or only above its lowest bits.
 pub fn any_disk(choice: &mut Choice, n: usize) -> usize {
     match choice.below(12) {

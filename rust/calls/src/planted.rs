@@ -35,7 +35,7 @@ pub fn table() -> [Row; TABLE.len()] {
 
 /// Each under a line that says what is wrong.
 #[rustfmt::skip]
-const PLANTED: [Planted; 37] = [
+const PLANTED: [Planted; 38] = [
     // the last wrong column instead of the first
     Archive("card_read", |input, lent| last_wrong_column(input, (cards::READ.engine)(input, lent))),
     // a refusal writes k
@@ -52,11 +52,12 @@ const PLANTED: [Planted; 37] = [
     Archive("encode", |input, lent| after(strips::ENCODE.engine, input, lent, 0, |lent, _| touch_behind(lent.written(0)))),
     // the last data disk is multiplied by 0
     Archive("encode", |input, lent| after(strips::ENCODE.engine, input, lent, 0, |lent, _| without_last_disk(input, lent.written(0)))),
-    // fatal where more disks are lost than there is parity
-    Archive("verdict", |input, lent| {
-        instead(sets::VERDICT.engine, input, lent, 0, input.card.get(1) == Some(&4), 256 * u64::from(input.set.count_ones() > 4))
+    // the whole set where it is fatal
+    Archive("verdict", |input, lent| match (sets::VERDICT.engine)(input, lent) {
+        fatal if fatal % 256 == 0 && fatal != 0 => 256 * u64::from(input.set),
+        answer => answer,
     }),
-    // wrong in large codes, for sets of one size
+    // nothing is undetermined in large codes, for sets of one size
     Archive("verdict", |input, lent| {
         let one_size = input.card.get(1).copied().map(u32::from) == Some(input.set.count_ones());
         instead(sets::VERDICT.engine, input, lent, 0, large(input) && one_size, 0)
@@ -97,6 +98,11 @@ const PLANTED: [Planted; 37] = [
     Archive("rebuild", |input, lent| {
         instead(strips::REBUILD.engine, input, lent, 12, large(input), 256 * u64::from(input.set.count_ones()))
     }),
+    // what is not restored becomes 0
+    Archive("partial_rebuild", |input, lent| after(strips::PARTIAL_REBUILD.engine, input, lent, 0, |lent, undetermined| {
+        let strips = lent.written(0).chunks_mut(input.strip_len).enumerate();
+        strips.filter(|(disk, _)| undetermined >> disk & 1 == 1).for_each(|(_, strip)| strip.fill(0));
+    })),
     // a byte is written behind the record
     Archive("record_write", |input, lent| after(records::WRITE.engine, input, lent, 0, |lent, len| if len < input.out_len {
         lent.written(0)[len] = 0;

@@ -37,7 +37,7 @@ pub struct Fault {
 }
 
 /// In the header's order.
-pub const TABLE: [Row; 13] = [
+pub const TABLE: [Row; 14] = [
     cards::READ,
     cards::WRITE,
     cards::ALIKE,
@@ -46,6 +46,7 @@ pub const TABLE: [Row; 13] = [
     sets::LIST,
     sets::EQUATIONS,
     strips::REBUILD,
+    strips::PARTIAL_REBUILD,
     trays::QUICK_REPAIR,
     updates::UPDATE,
     records::WRITE,

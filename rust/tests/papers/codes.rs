@@ -71,9 +71,13 @@ impl Code {
         first_place(&self.vector())
     }
 
-    /// The engine's verdict.
+    /// The engine's verdict: the disks of the set that stay undetermined.
+    pub fn undetermined(&self, set: u32) -> u32 {
+        bridgecrumb::undetermined(&self.card(), set).expect("a set of this code")
+    }
+
     pub fn is_fatal(&self, set: u32) -> bool {
-        bridgecrumb::is_fatal(&self.card(), set).expect("a set of this code")
+        self.undetermined(set) != 0
     }
 
     /// The engine's equations of a disk.

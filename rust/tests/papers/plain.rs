@@ -8,30 +8,32 @@ fn held(code: &Code, word: u32) -> u32 {
     word | bits.sum::<u32>()
 }
 
-/// For each set of disks, whether two different data words agree on every disk outside it. All sets and
-/// all words are tried, so this is for small codes alone.
-pub fn fatal_sets(code: &Code) -> Vec<bool> {
-    let words: Vec<u32> = (0..1 << code.k).map(|word| held(code, word)).collect();
-    let fatal = |lost: u32| {
-        let mut left: Vec<u32> = words.iter().map(|word| word & !lost).collect();
-        left.sort_unstable();
-        left.windows(2).any(|pair| pair[0] == pair[1])
+/// For each set of disks, those on which two data words differ that agree on every disk outside it; the set is
+/// fatal where there are any. All sets and all words are tried, so this is for small codes alone. Sorted,
+/// words that agree stand together, and where two of them differ, two neighbours do.
+pub fn undetermined_sets(code: &Code) -> Vec<u32> {
+    let mut words: Vec<u32> = (0..1 << code.k).map(|word| held(code, word)).collect();
+    let undetermined = |lost: u32| {
+        words.sort_unstable_by_key(|word| word & !lost);
+        let agreeing = words.windows(2).filter(|pair| pair[0] & !lost == pair[1] & !lost);
+        agreeing.fold(0, |sum, pair| sum | (pair[0] ^ pair[1]))
     };
-    (0..1 << code.n()).map(fatal).collect()
+    (0..1 << code.n()).map(undetermined).collect()
 }
 
 /// The fatal sets with no fatal proper subset, every subset tried: smaller size first, then smaller data
 /// part.
-pub fn literal_list(code: &Code, fatal: &[bool]) -> Vec<u32> {
+pub fn literal_list(code: &Code, undetermined: &[u32]) -> Vec<u32> {
+    let fatal = |set: u32| undetermined[set as usize] != 0;
     let minimal = |set: u32| {
         let mut inside = set;
-        fatal[set as usize]
+        fatal(set)
             && loop {
                 if inside == 0 {
                     break true;
                 }
                 inside = (inside - 1) & set;
-                if fatal[inside as usize] {
+                if fatal(inside) {
                     break false;
                 }
             }
@@ -73,10 +75,10 @@ pub fn compare(code: &Code) {
     let listed = code.listed();
     assert_eq!(listed, list_by_words(code), "{:?}", code);
     if code.n() + code.k <= 21 {
-        let fatal = fatal_sets(code);
-        assert_eq!(listed, literal_list(code, &fatal), "{:?}", code);
-        for (set, &expected) in fatal.iter().enumerate() {
-            assert_eq!(code.is_fatal(set as u32), expected, "{:?}, set {}", code, set);
+        let undetermined = undetermined_sets(code);
+        assert_eq!(listed, literal_list(code, &undetermined), "{:?}", code);
+        for (set, &expected) in undetermined.iter().enumerate() {
+            assert_eq!(code.undetermined(set as u32), expected, "{:?}, set {}", code, set);
         }
     }
     if code.m() <= 8 {

@@ -1,7 +1,7 @@
 //! Document 000, Table 3: for each k and m from 2 to 7 one of the codes with the best minimal erasures
 //! vector, that vector (MEV*) and the best distance (d*). All 36 rows are here.
 use crate::codes::{by_size, first_place, size, Code};
-use crate::plain::{compare, fatal_sets, literal_list};
+use crate::plain::{compare, literal_list, undetermined_sets};
 
 /// A row as printed. The ninth column is left out: it is an average over all codes of a k and m, whose
 /// terms are not printed.
@@ -124,7 +124,7 @@ fn vectors_with_m_past_k_follow_the_definitions() {
     for (row, &(k, m, vector)) in rows.iter().zip(MORE_PARITY) {
         assert_eq!((row.k, row.m), (k, m));
         let code = Code::new(k, row.columns);
-        let counted = by_size(&literal_list(&code, &fatal_sets(&code)), m + 1);
+        let counted = by_size(&literal_list(&code, &undetermined_sets(&code)), m + 1);
         assert_eq!(counted[..m], *vector, "{:?}", code);
         assert_eq!(code.vector(), counted, "{:?}", code);
         assert_ne!(row.mev, vector, "{:?}", code);

@@ -8,6 +8,20 @@ pub fn fatal(code: &Code, set: u32) -> bool {
     (0..code.held.len()).any(|x| (0..x).any(|y| differ_inside(x, y)))
 }
 
+/// The disks on which two data words differ that agree on every disk outside the set.
+pub fn undetermined(code: &Code, set: u32) -> u32 {
+    let mut differing = 0;
+    for x in 0..code.held.len() {
+        for y in 0..x {
+            let differ = code.held[x] ^ code.held[y];
+            if differ & !set == 0 {
+                differing |= differ;
+            }
+        }
+    }
+    differing
+}
+
 /// The sets with the property of which no proper subset has it.
 fn minimal(has: &[bool]) -> Vec<u32> {
     let smaller_inside = |set: usize| (0..set).any(|inner| inner & set == inner && has[inner]);

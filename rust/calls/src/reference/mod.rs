@@ -151,12 +151,12 @@ pub fn code(card: &[u8]) -> Result<Rc<Code>, Refusal> {
     Ok(code)
 }
 
-/// The verdict call.
-pub fn verdict(code: &Code, set: u32) -> Result<bool, Refusal> {
+/// The verdict call: the disks of the set that the survivors don't determine.
+pub fn verdict(code: &Code, set: u32) -> Result<u32, Refusal> {
     if set & !code.disks() != 0 {
         return refusal(8);
     }
-    Ok(if code.literal() { literal::fatal(code, set) } else { quick::fatal(code, set) })
+    Ok(if code.literal() { literal::undetermined(code, set) } else { quick::undetermined(code, set) })
 }
 
 /// All minimal erasures in the lister's order.

@@ -5,16 +5,18 @@
 
 use super::Code;
 
-/// Does a data word other than 0 hold 0 on every disk outside the set?
-pub fn fatal(code: &Code, set: u32) -> bool {
-    code.held[1..].iter().any(|held| held & !set == 0)
+/// The disks that hold 1 for some data word that holds 0 on every disk outside the set.
+pub fn undetermined(code: &Code, set: u32) -> u32 {
+    code.held.iter().filter(|&held| held & !set == 0).fold(0, |sum, held| sum | held)
 }
 
-/// Fatal by the definition with two data words: sorted by what the survivors hold, two equal ones are neighbours.
-pub fn fatal_by_two_words(code: &Code, set: u32) -> bool {
-    let mut left: Vec<u32> = code.held.iter().map(|held| held & !set).collect();
-    left.sort_unstable();
-    left.windows(2).any(|two| two[0] == two[1])
+/// The same by the definition with two data words: sorted by what the survivors hold, those that agree there stand together, and a disk on
+/// which two of these differ is one on which two neighbours do.
+pub fn undetermined_by_two_words(code: &Code, set: u32) -> u32 {
+    let mut words = code.held.clone();
+    words.sort_unstable_by_key(|held| held & !set);
+    let alike = words.windows(2).filter(|two| two[0] & !set == two[1] & !set);
+    alike.fold(0, |sum, two| sum | (two[0] ^ two[1]))
 }
 
 /// The chosen sets with no other chosen one inside, where place x of `sets` has the set that is told by its part x: a set inside another

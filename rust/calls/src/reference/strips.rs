@@ -1,6 +1,7 @@
 //! Encoding and rebuilding: eight data words for each place of the strips, one for each bit of a byte.
 
 use super::{code, literal, outline, quick, refusal, verdict, Code, Refusal};
+use std::collections::HashMap;
 use std::rc::Rc;
 
 /// Refusal 6.
@@ -52,28 +53,39 @@ fn bits_at(code: &Code, strip_len: usize, stripe: &[u8], t: usize, bit: usize) -
     (0..code.n()).map(|disk| u32::from(stripe[disk * strip_len + t] >> bit & 1) << disk).sum()
 }
 
-/// The rebuilder once the set is known not to be fatal; `agreeing` tells the data words that agree with the survivors.
-fn restored(
-    code: &Code,
-    strip_len: usize,
-    lost: u32,
-    stripe: &[u8],
-    agreeing: impl Fn(u32) -> Vec<usize>,
-) -> Result<Vec<u8>, Refusal> {
+/// What a data word that agrees with the survivors holds, 12 where none does. Where several do, they differ on the undetermined disks and on no
+/// other; there is only one where the set is not fatal.
+fn told_by(code: &Code, undetermined: u32, agreeing: &[usize]) -> Result<u32, Refusal> {
+    let first = match agreeing.first() {
+        Some(&word) => code.held[word],
+        None => return refusal(12),
+    };
+    let differing = agreeing.iter().fold(0, |sum, &word| sum | (code.held[word] ^ first));
+    assert_eq!(differing, undetermined, "contents that agree with the survivors differ elsewhere");
+    Ok(first)
+}
+
+/// Both rebuilders once it is known which lost disks are undetermined: the strips of the others are restored.
+fn restored(code: &Code, strip_len: usize, lost: u32, undetermined: u32, stripe: &[u8]) -> Result<Vec<u8>, Refusal> {
+    let ordered = if code.literal() { None } else { Some(agreeing(code, lost)) };
+    let agreeing = |bits: u32| match &ordered {
+        None => literal::agreeing(code, lost, bits),
+        Some(ordered) => ordered.words(bits),
+    };
+    let determined: Vec<usize> = (0..code.n()).filter(|disk| (lost & !undetermined) >> disk & 1 == 1).collect();
     let mut after = stripe.to_vec();
-    for disk in (0..code.n()).filter(|disk| lost >> disk & 1 == 1) {
+    for disk in &determined {
         after[disk * strip_len..(disk + 1) * strip_len].fill(0);
     }
+    // many words may agree, so they are gone through once for what the survivors have and not at each place
+    let mut known = HashMap::new();
     for t in 0..strip_len {
         for bit in 0..8 {
-            let words = agreeing(bits_at(code, strip_len, stripe, t, bit) & !lost);
-            let word = match words[..] {
-                [] => return refusal(12),
-                [only] => only,
-                _ => panic!("two contents agree with the survivors, yet the set is not fatal"),
-            };
-            for disk in (0..code.n()).filter(|disk| lost >> disk & 1 == 1) {
-                after[disk * strip_len + t] |= ((code.held[word] >> disk & 1) as u8) << bit;
+            let bits = bits_at(code, strip_len, stripe, t, bit) & !lost;
+            let told = known.entry(bits).or_insert_with(|| told_by(code, undetermined, &agreeing(bits)));
+            let held = (*told)?;
+            for disk in &determined {
+                after[disk * strip_len + t] |= ((held >> disk & 1) as u8) << bit;
             }
         }
     }
@@ -97,14 +109,16 @@ fn agreeing(code: &Code, lost: u32) -> Rc<quick::Agreeing> {
 pub fn rebuild(card: &[u8], strip_len: usize, lost: u32, stripe: &[u8]) -> Result<(usize, Vec<u8>), Refusal> {
     check(&outline(card)?, strip_len, lost, stripe.len())?;
     let code = code(card)?;
-    if verdict(&code, lost)? {
+    if verdict(&code, lost)? != 0 {
         return refusal(11);
     }
-    let after = if code.literal() {
-        restored(&code, strip_len, lost, stripe, |bits| literal::agreeing(&code, lost, bits))?
-    } else {
-        let agreeing = agreeing(&code, lost);
-        restored(&code, strip_len, lost, stripe, |bits| agreeing.words(bits))?
-    };
-    Ok((lost.count_ones() as usize, after))
+    Ok((lost.count_ones() as usize, restored(&code, strip_len, lost, 0, stripe)?))
+}
+
+/// The partial rebuild: the undetermined disks, and the stripe afterwards.
+pub fn partial_rebuild(card: &[u8], strip_len: usize, lost: u32, stripe: &[u8]) -> Result<(u32, Vec<u8>), Refusal> {
+    check(&outline(card)?, strip_len, lost, stripe.len())?;
+    let code = code(card)?;
+    let undetermined = verdict(&code, lost)?;
+    Ok((undetermined, restored(&code, strip_len, lost, undetermined, stripe)?))
 }

@@ -24,10 +24,10 @@ pub const VERDICT: Row = Row {
         // SAFETY: the card is as long as is said
         unsafe { ffi::bridgecrumb_verdict(card, card_len, input.set) }
     },
-    safe: |input, lent| code(bridgecrumb::is_fatal(lent.slice(&input.card), input.set).map(usize::from)),
+    safe: |input, lent| code(bridgecrumb::undetermined(lent.slice(&input.card), input.set).map(|set| set as usize)),
     reference: |input| {
         let code = reference::code(&input.card);
-        Told::of(code.and_then(|code| Ok((reference::verdict(&code, input.set)?.into(), Vec::new()))))
+        Told::of(code.and_then(|code| Ok((reference::verdict(&code, input.set)? as usize, Vec::new()))))
     },
 };
 

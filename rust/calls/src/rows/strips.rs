@@ -2,7 +2,7 @@
 
 use super::cards::{large, most_k};
 use super::{card_then, set_faults, strip_len_faults, stripe_faults, ways};
-use crate::cards::{any_card, any_set, c1, disks_of, every_card};
+use crate::cards::{any_card, any_loss, any_set, c1, disks_of, every_card};
 use crate::choice::Choice;
 use crate::input::{code, Input, Told};
 use crate::reference::{outline, strips};
@@ -90,6 +90,47 @@ pub const REBUILD: Row = Row {
     reference: |input| {
         let after = strips::rebuild(&input.card, input.strip_len, input.set, &input.stripe);
         Told::of(after.map(|(restored, stripe)| (restored, vec![stripe])))
+    },
+};
+
+pub const PARTIAL_REBUILD: Row = Row {
+    name: "partial_rebuild",
+    any: |choice| {
+        let card = any_card(choice, most_k(choice));
+        let strip_len = any_strip_len(choice);
+        let set = any_loss(choice, &card);
+        Input { stripe: any_stripe(choice, &card, strip_len, set), card, strip_len, set, ..Input::default() }
+    },
+    every: every_rebuild,
+    good: || {
+        // disk 0 is restored and disks 1 to 3 are not; it has other bytes, so that a call that restores before it refuses is seen
+        let mut good = Input { set: 15, ..good_stripe() };
+        good.stripe[..3].iter_mut().for_each(|byte| *byte ^= 0x5a);
+        good
+    },
+    faults: || {
+        // of losses that are not fatal and of fatal ones
+        let spoiled = ways(12, vec![(1, 9), (1, 20), (37, 9), (37, 20)], |input, &(set, at): &(u32, usize)| {
+            input.set = set;
+            input.stripe[at] ^= 1;
+        });
+        card_then([strip_len_faults(), set_faults(), stripe_faults(), spoiled])
+    },
+    heavy: |input| large(&input.card) || long(input),
+    engine: |input, lent| {
+        let (card, card_len) = lent.read(&input.card);
+        let (stripe, stripe_len) = lent.write(&input.stripe);
+        // SAFETY: each buffer is as long as is said
+        unsafe { ffi::bridgecrumb_partial_rebuild(card, card_len, input.strip_len, input.set, stripe, stripe_len) }
+    },
+    safe: |input, lent| {
+        let card = lent.slice(&input.card);
+        let left = bridgecrumb::partial_rebuild(card, input.strip_len, input.set, lent.slice_mut(&input.stripe));
+        code(left.map(|set| set as usize))
+    },
+    reference: |input| {
+        let after = strips::partial_rebuild(&input.card, input.strip_len, input.set, &input.stripe);
+        Told::of(after.map(|(undetermined, stripe)| (undetermined as usize, vec![stripe])))
     },
 };
 

@@ -1,6 +1,10 @@
 //! Demand 3's five statements about a set of disks, of which the engine makes four, agree: the set is fatal by two
-//! data words; the verdict call says so; it contains an entry of the engine's list; some lost disk has no entry of the
-//! engine's equations among the survivors; the rebuilder says 11.
+//! data words; the verdict call's set is not empty; it contains an entry of the engine's list; some lost disk has no entry
+//! of the engine's equations among the survivors; the rebuilder says 11.
+//!
+//! So do five about each disk, document 02's request [5]: two data words alike on the survivors differ there; the verdict
+//! call's set holds it; an entry of the engine's list inside the set holds it; it is lost and has no entry of the engine's
+//! equations among the survivors; the partial rebuild's answer holds it.
 
 use bridgecrumb::Error;
 use calls::cards::{every_card, good_card};
@@ -27,55 +31,98 @@ impl Lists {
         Lists { erasures, equations }
     }
 
+    /// The disks of the entries inside the set.
+    fn in_listed(&self, set: u32) -> u32 {
+        self.erasures.iter().filter(|&entry| entry & !set == 0).fold(0, |sum, entry| sum | entry)
+    }
+
     fn contains_listed(&self, set: u32) -> bool {
         self.erasures.iter().any(|entry| entry & !set == 0)
     }
 
-    fn some_disk_untold(&self, set: u32) -> bool {
+    /// The disks of the set that no equation among the survivors tells.
+    fn untold(&self, set: u32) -> u32 {
         let told = |disk: usize| self.equations[disk].iter().any(|equation| equation & set == 0);
-        (0..self.equations.len()).any(|disk| set >> disk & 1 == 1 && !told(disk))
+        (0..self.equations.len()).filter(|&disk| set >> disk & 1 == 1 && !told(disk)).map(|disk| 1 << disk).sum()
     }
 }
 
-/// Whether the rebuilder says 11. A stripe that was encoded is restored where it does not; one of any bytes, which may
-/// be of no content, gets 11 all the same where the set is fatal.
-fn rebuilder_says_11(choice: &mut Choice, card: &[u8], code: &Code, set: u32) -> bool {
-    let strip_len = 1 + choice.below(20);
-    let any = choice.bytes(code.n() * strip_len);
-    let encoded = strips::encoded(code, strip_len, &any);
-    let mut stripe = encoded.clone();
-    for disk in (0..code.n()).filter(|disk| set >> disk & 1 == 1) {
-        stripe[disk * strip_len..(disk + 1) * strip_len].copy_from_slice(&any[..strip_len]);
-    }
-    let before = stripe.clone();
-    let answer = bridgecrumb::rebuild(card, strip_len, set, &mut stripe);
-    let mut spoiled = any;
-    let other = bridgecrumb::rebuild(card, strip_len, set, &mut spoiled);
-    assert_eq!(answer == Err(Error::Fatal), other == Err(Error::Fatal), "{card:?}, set {set:#x}");
-    match answer {
-        Ok(count) => {
-            assert_eq!(count, set.count_ones() as usize, "{card:?}, set {set:#x}");
-            assert_eq!(stripe, encoded, "{card:?}, set {set:#x}");
-        }
-        Err(error) => {
-            assert_eq!(error, Error::Fatal, "{card:?}, set {set:#x}");
-            assert_eq!(stripe, before, "{card:?}, set {set:#x}");
-        }
-    }
-    answer.is_err()
+/// A loss of a stripe that was encoded, and of one of any bytes, which may be of no content.
+struct Loss<'a> {
+    card: &'a [u8],
+    set: u32,
+    strip_len: usize,
+    encoded: Vec<u8>,
+    /// The encoded stripe with other bytes in the lost strips.
+    stripe: Vec<u8>,
+    any: Vec<u8>,
 }
 
-/// The five statements; answers whether the set is fatal.
-fn five_statements(choice: &mut Choice, card: &[u8], code: &Code, lists: &Lists, set: u32) -> bool {
-    let fatal = quick::fatal_by_two_words(code, set);
-    let statements = [
-        fatal,
-        bridgecrumb::is_fatal(card, set).unwrap(),
-        lists.contains_listed(set),
-        lists.some_disk_untold(set),
-        rebuilder_says_11(choice, card, code, set),
-    ];
-    assert_eq!(statements, [fatal; 5], "{card:?}, set {set:#x}");
+impl Loss<'_> {
+    fn of<'a>(choice: &mut Choice, card: &'a [u8], code: &Code, set: u32) -> Loss<'a> {
+        let strip_len = 1 + choice.below(20);
+        let any = choice.bytes(code.n() * strip_len);
+        let encoded = strips::encoded(code, strip_len, &any);
+        let mut loss = Loss { card, set, strip_len, stripe: encoded.clone(), encoded, any };
+        loss.stripe = loss.with_strips(&loss.encoded, set, |_| &loss.any[..strip_len]);
+        loss
+    }
+
+    /// A stripe with other strips for the disks of the set.
+    fn with_strips<'b>(&self, stripe: &[u8], set: u32, strip: impl Fn(usize) -> &'b [u8]) -> Vec<u8> {
+        let mut with = stripe.to_vec();
+        for (disk, old) in with.chunks_mut(self.strip_len).enumerate().filter(|(disk, _)| set >> disk & 1 == 1) {
+            old.copy_from_slice(strip(disk));
+        }
+        with
+    }
+
+    /// Whether the rebuilder says 11. The encoded stripe is restored where it does not; the one of any bytes gets 11 all the
+    /// same where the set is fatal.
+    fn rebuilder_says_11(&self) -> bool {
+        let (mut stripe, mut any) = (self.stripe.clone(), self.any.clone());
+        let answer = bridgecrumb::rebuild(self.card, self.strip_len, self.set, &mut stripe);
+        let other = bridgecrumb::rebuild(self.card, self.strip_len, self.set, &mut any);
+        assert_eq!(answer == Err(Error::Fatal), other == Err(Error::Fatal), "{:?}, set {:#x}", self.card, self.set);
+        match answer {
+            Ok(count) => {
+                assert_eq!(count, self.set.count_ones() as usize, "{:?}, set {:#x}", self.card, self.set);
+                assert_eq!(stripe, self.encoded, "{:?}, set {:#x}", self.card, self.set);
+            }
+            Err(error) => {
+                assert_eq!(error, Error::Fatal, "{:?}, set {:#x}", self.card, self.set);
+                assert_eq!(stripe, self.stripe, "{:?}, set {:#x}", self.card, self.set);
+            }
+        }
+        answer.is_err()
+    }
+
+    /// What the partial rebuild answers for the encoded stripe: these disks keep their bytes, and all others have those that were encoded. Where
+    /// it answers no disk, it does to the stripe of any bytes what the rebuilder does, 12 too.
+    fn partly_rebuilt(&self) -> u32 {
+        let mut stripe = self.stripe.clone();
+        let left = bridgecrumb::partial_rebuild(self.card, self.strip_len, self.set, &mut stripe).expect("a content");
+        let kept = |disk: usize| &self.stripe[disk * self.strip_len..(disk + 1) * self.strip_len];
+        assert_eq!(stripe, self.with_strips(&self.encoded, left, kept), "{:?}, set {:#x}", self.card, self.set);
+        if left == 0 {
+            let (mut whole, mut part) = (self.any.clone(), self.any.clone());
+            let said = bridgecrumb::rebuild(self.card, self.strip_len, self.set, &mut whole).map(|_| 0);
+            assert_eq!(bridgecrumb::partial_rebuild(self.card, self.strip_len, self.set, &mut part), said);
+            assert_eq!(part, whole, "{:?}, set {:#x}", self.card, self.set);
+        }
+        left
+    }
+}
+
+/// The statements; answers whether the set is fatal.
+fn statements(choice: &mut Choice, card: &[u8], code: &Code, lists: &Lists, set: u32) -> bool {
+    let undetermined = quick::undetermined_by_two_words(code, set);
+    let (fatal, loss) = (undetermined != 0, Loss::of(choice, card, code, set));
+    let (verdict, untold) = (bridgecrumb::undetermined(card, set).unwrap(), lists.untold(set));
+    let of_disks = [undetermined, verdict, lists.in_listed(set), untold, loss.partly_rebuilt()];
+    assert_eq!(of_disks, [undetermined; 5], "{card:?}, set {set:#x}");
+    let of_set = [fatal, verdict != 0, lists.contains_listed(set), untold != 0, loss.rebuilder_says_11()];
+    assert_eq!(of_set, [fatal; 5], "{card:?}, set {set:#x}");
     fatal
 }
 
@@ -98,7 +145,7 @@ fn any_set(choice: &mut Choice, code: &Code, lists: &Lists) -> u32 {
     }
 }
 
-/// The five statements about the sets that are told for each card; prints how many there were.
+/// The statements about the sets that are told for each card; prints how many there were.
 fn try_cards(name: &str, cards: &[Vec<u8>], sets_of: impl Fn(&mut Choice, &Code, &Lists) -> Vec<u32>) {
     let mut choice = Choice::named(name);
     let (mut sets, mut fatal) = (0, 0);
@@ -107,7 +154,7 @@ fn try_cards(name: &str, cards: &[Vec<u8>], sets_of: impl Fn(&mut Choice, &Code,
         let lists = Lists::of(card, code.n());
         for set in sets_of(&mut choice, &code, &lists) {
             sets += 1;
-            fatal += u64::from(five_statements(&mut choice, card, &code, &lists, set));
+            fatal += u64::from(statements(&mut choice, card, &code, &lists, set));
         }
     }
     assert!(fatal * 5 > sets && fatal * 5 < sets * 4, "{fatal} of {sets} sets fatal: the choice of sets is poor");

@@ -3,6 +3,7 @@
 mod demand3;
 mod drivers;
 mod methods;
+mod partial;
 mod round_trips;
 mod updates;
 mod worked;

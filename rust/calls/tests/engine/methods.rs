@@ -19,9 +19,10 @@ fn same_methods(code: &Code, choice: &mut Choice) {
         );
     }
     for set in 0..=code.disks() {
-        let fatal = literal::fatal(code, set);
-        assert_eq!(fatal, quick::fatal(code, set), "{code:?}, set {set}");
-        assert_eq!(fatal, quick::fatal_by_two_words(code, set), "{code:?}, set {set}");
+        let undetermined = literal::undetermined(code, set);
+        assert_eq!(undetermined != 0, literal::fatal(code, set), "{code:?}, set {set}");
+        assert_eq!(undetermined, quick::undetermined(code, set), "{code:?}, set {set}");
+        assert_eq!(undetermined, quick::undetermined_by_two_words(code, set), "{code:?}, set {set}");
         let agreeing = quick::Agreeing::new(code, set);
         for _ in 0..4 {
             let word = choice.below(code.held.len());

@@ -1,5 +1,5 @@
-//! Document 01's worked codes, C1 to C12, quick repairs and updates of document 02 and a record by hand: of the reference, and of the
-//! engine beside it.
+//! Document 01's worked codes, C1 to C12, verdicts, partial rebuilds, quick repairs and updates of document 02 and a record by hand: of the
+//! reference, and of the engine beside it.
 
 use bridgecrumb::Error;
 use calls::cards::{card_of, card_of_size};
@@ -41,13 +41,22 @@ fn c1_to_c6_lists() {
     listed(1, &[1, 1], &[7], &[0, 0, 1]);
     listed(3, &[7], &[9, 10, 3, 12, 5, 6], &[0, 6]);
     listed(2, &[1], &[2, 5], &[1, 1]);
-    let verdict = |k, columns: &[u16], set, fatal: u64| {
+}
+
+/// Document 02, request [5]: the disks that stay undetermined. With C1's data lost, its parities still tell disk 0; with C6's last two disks
+/// lost, disk 0 tells the parity, and nothing tells disk 1, which stands in no column.
+#[test]
+fn verdicts() {
+    let verdict = |k, columns: &[u16], set, undetermined: u64| {
         let card = card_of(k, columns.len(), columns);
-        worked("verdict", Input { card, set, ..Input::default() }, 256 * fatal, Vec::new());
+        worked("verdict", Input { card, set, ..Input::default() }, 256 * undetermined, Vec::new());
     };
-    verdict(4, &[7, 11, 13], 127, 1);
+    verdict(4, &[7, 11, 13], 127, 127);
+    verdict(4, &[7, 11, 13], 15, 14);
+    verdict(4, &[7, 11, 13], 14, 14);
     verdict(4, &[7, 11, 13], 7, 0);
-    verdict(2, &[1, 2], 15, 1);
+    verdict(2, &[1, 2], 15, 15);
+    verdict(2, &[1], 6, 2);
 }
 
 /// Their vectors are 0 3 0 3 and 0 3 0 0.
@@ -74,6 +83,27 @@ fn c7_to_c10_stripes() {
     worked("rebuild", input(7, [0, 0, 0, 0x88, 0x77, 0xBB, 0xDD]), 256 * 3, encoded);
     worked("rebuild", input(1, [0, 0x22, 0x44, 0x88, 0x77, 0xBB, 0xDC]), 12, Vec::new());
     worked("rebuild", input(14, [0x11, 0, 0, 0, 0x77, 0xBB, 0xDD]), 11, Vec::new());
+}
+
+/// Document 02, request [5], on C7's stripe and one of C6: what is not determined keeps its bytes, survivors of no content are 12 in fatal
+/// losses too, and where all is determined it is the rebuilder's stripe.
+#[test]
+fn c7_partial_rebuilds() {
+    let input = |k, columns: &[u16], set, stripe: &[u8]| {
+        let (card, stripe) = (card_of(k, columns.len(), columns), stripe.to_vec());
+        Input { card, strip_len: 1, set, stripe, ..Input::default() }
+    };
+    let c7 = |set, stripe: [u8; 7]| input(4, &[7, 11, 13], set, &stripe);
+    let call = "partial_rebuild";
+    worked(call, c7(15, [0, 1, 2, 3, 0x77, 0xBB, 0xDD]), 256 * 14, vec![vec![0x11, 1, 2, 3, 0x77, 0xBB, 0xDD]]);
+    worked(call, c7(14, [0x11, 1, 2, 3, 0x77, 0xBB, 0xDD]), 256 * 14, vec![vec![0x11, 1, 2, 3, 0x77, 0xBB, 0xDD]]);
+    worked(call, c7(14, [0x11, 1, 2, 3, 0x77, 0xBB, 0xDC]), 12, Vec::new());
+    worked(call, c7(127, [9, 8, 7, 6, 5, 4, 3]), 256 * 127, vec![vec![9, 8, 7, 6, 5, 4, 3]]);
+    let whole = vec![0x11, 0x22, 0x44, 0x88, 0x77, 0xBB, 0xDD];
+    worked(call, c7(7, [0, 0, 0, 0x88, 0x77, 0xBB, 0xDD]), 0, vec![whole.clone()]);
+    worked(call, c7(0, [0x11, 0x22, 0x44, 0x88, 0x77, 0xBB, 0xDD]), 0, vec![whole]);
+    worked(call, c7(1, [0, 0x22, 0x44, 0x88, 0x77, 0xBB, 0xDC]), 12, Vec::new());
+    worked(call, input(2, &[1], 6, &[0x5A, 1, 2]), 256 * 2, vec![vec![0x5A, 1, 0x5A]]);
 }
 
 #[test]
