@@ -29,6 +29,7 @@ one-set card k m S L stripe slice slices ok set len whole fits fit =
     record {
       verdict = verdict-is card k m ok S set;
       lost = undetermined-lost C S;
+      differ = λ d l. (λ t. set-out (disks C) (undetermined C S) d t .1, set-in (disks C) (undetermined C S) d l);
       not-empty = f;
       rebuilder = (λ e. f .0 (r .1 e), λ u. r .0 (f .1 u));
       entry = λ d. subst (λ (l : List ℕ). T (has (undeterminedSet C S) d) ↔ ((R : ℕ) × T (member R l) × T (R ⊆ S) × T (has R d)))

@@ -11,7 +11,7 @@ use Rattle.gf2.specs.Sets.{has, _⊆_}
 use Rattle.flat.specs.Lists.{member}
 use Rattle.flat.specs.Cards.{codeOf, disks, setOk}
 use Rattle.flat.specs.Strips.{lengthOk}
-use Rattle.flat.specs.Erasures.{survivors, fatal, undeterminedSet, erasures}
+use Rattle.flat.specs.Erasures.{survivors, fatal, undetermined, undeterminedSet, erasures}
 use Rattle.flat.specs.Equations.{equations}
 use Rattle.flat.specs.Rebuilding.{Agreeing}
 use Rattle.flat.specs.Faults.{accepted, refused, cardReport, verdictReport, rebuildReport}
@@ -20,9 +20,11 @@ use Rattle.demands.specs.Demand3.{listed, told}
 
 -- U is the set of undetermined disks
 pub record AgreesWith (card : List ℕ) (S L : ℕ) (stripe slice : List ℕ) (slices : ℕ → List ℕ) (U : ℕ) : Type 0 where
-  -- the verdict call gives it, of lost disks alone; the set is fatal where it isn't empty, and there the rebuilder refuses it so
+  -- the verdict call gives it: lost disks alone, those on which two data words differ that are alike on the survivors
   pub verdict : verdictReport card S ≡ accepted (U ∷ [])
   pub lost : T (U ⊆ S)
+  pub differ : (d : ℕ) → d < disks (codeOf card) → T (has U d) ↔ T (undetermined (codeOf card) S d)
+  -- the set is fatal where it isn't empty, and there the rebuilder refuses it so
   pub not-empty : T (fatal (codeOf card) S) ↔ (U ≢ 0)
   pub rebuilder : (rebuildReport card L S stripe ≡ refused 11 []) ↔ (U ≢ 0)
   -- a disk is in it exactly where some listed set inside the lost set holds it

@@ -1,4 +1,5 @@
 pub mod Differing
 pub mod Calls
+pub mod Refusals
 pub mod Whole
 pub mod Impostors

@@ -14,7 +14,7 @@ use Rattle.flat.specs.Cards.{Code, codeOf, disks, setOk}
 use Rattle.flat.specs.Strips.{lengthOk, byteOf, given}
 use Rattle.flat.specs.Erasures.{undeterminedSet}
 use Rattle.flat.specs.Rebuilding.{Agreeing}
-use Rattle.flat.specs.Faults.{accepted, refused, unlessRefused, cardReport, rebuildReport, rebuildStripe}
+use Rattle.flat.specs.Faults.{accepted, refused, unlessRefused, cardReport, verdictReport, rebuildReport, rebuildStripe}
 use Rattle.partial_rebuilding.specs.Faults.{partialReport, partialStripe}
 
 -- ---- what is undetermined
@@ -51,7 +51,22 @@ PartialRight =
     (card : List ℕ) (k m S L : ℕ) (stripe : List ℕ) → cardReport card ≡ accepted (k ∷ m ∷ []) → T (setOk (codeOf card) S) → T (lengthOk L)
     → length stripe ≡ disks (codeOf card) * L → RightPartial card S L stripe
 
--- It never gives 11.
+-- For an accepted card 6 comes first, then 8, then 7, whatever else is wrong.
+pub record RefusesInOrder (card : List ℕ) (L S : ℕ) (stripe : List ℕ) : Type 0 where
+  pub six : (T (lengthOk L) → ⊥) → partialReport card L S stripe ≡ refused 6 []
+  pub eight : T (lengthOk L) → (T (setOk (codeOf card) S) → ⊥) → partialReport card L S stripe ≡ refused 8 []
+  pub seven : T (lengthOk L) → T (setOk (codeOf card) S) → length stripe ≢ disks (codeOf card) * L → partialReport card L S stripe ≡ refused 7 []
+
+abbrev pub PartialRefuses : Type 0
+PartialRefuses =
+    (card : List ℕ) (k m L S : ℕ) (stripe : List ℕ) → cardReport card ≡ accepted (k ∷ m ∷ []) → RefusesInOrder card L S stripe
+
+-- The verdict call refuses a set with a disk that the code lacks.
+abbrev pub VerdictRefuses : Type 0
+VerdictRefuses =
+    (card : List ℕ) (k m S : ℕ) → cardReport card ≡ accepted (k ∷ m ∷ []) → (T (setOk (codeOf card) S) → ⊥) → verdictReport card S ≡ refused 8 []
+
+-- The second rebuild call never gives 11.
 abbrev pub NeverFatal : Type 0
 NeverFatal = (card : List ℕ) (L S : ℕ) (stripe : List ℕ) → partialReport card L S stripe .number ≢ 11
 
