@@ -219,7 +219,7 @@ static void print_row(const char *name, const struct job *job, uint32_t left, co
 /* a row for each strip length */
 static void rows(const char *name, const struct job *card, uint32_t lost, struct ratios *ratios)
 {
-    static const size_t strip_lens[] = {1, 16, 100, 1000, 4096, 65536};
+    static const size_t strip_lens[] = {1, 15, 16, 100, 127, 1000, 4096, 65536};
     uint32_t left = left_of(*card, lost);
     int last = left == 0 ? REBUILD : PLAIN;
     for (size_t l = 0; l < sizeof strip_lens / sizeof *strip_lens; l++) {

@@ -1,8 +1,8 @@
 #!/usr/bin/env python3
-"""The listing of a card, the undetermined disks of a loss and the equations of a disk by brute force, straight from document 01's definitions;
-the vector's length and the undetermined disks are document 02's.
+"""The listing of a card, the equations of a disk and the undetermined disks of a loss by brute force, straight from the definitions of document
+01 and, for the vector's length and the undetermined disks, of document 02.
 
-It shares nothing with the engine: sets are tried one by one, and two data words are compared disk by disk. It is meant for
+It shares nothing with the engine: sets are tried one by one, and data words are compared on each disk. It is meant for
 codes of some 12 disks at the most; the undetermined disks of one loss are found for any code.
 
     reference.py CARD          the text that the listing program prints for the card in the file CARD

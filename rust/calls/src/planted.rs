@@ -35,7 +35,7 @@ pub fn table() -> [Row; TABLE.len()] {
 
 /// Each under a line that says what is wrong.
 #[rustfmt::skip]
-const PLANTED: [Planted; 38] = [
+const PLANTED: [Planted; 39] = [
     // the last wrong column instead of the first
     Archive("card_read", |input, lent| last_wrong_column(input, (cards::READ.engine)(input, lent))),
     // a refusal writes k
@@ -103,6 +103,11 @@ const PLANTED: [Planted; 38] = [
         let strips = lent.written(0).chunks_mut(input.strip_len).enumerate();
         strips.filter(|(disk, _)| undetermined >> disk & 1 == 1).for_each(|(_, strip)| strip.fill(0));
     })),
+    // of a fatal loss the survivors are not looked at
+    Archive("partial_rebuild", |input, lent| {
+        let fatal = bridgecrumb::undetermined(&input.card, input.set) != Ok(0);
+        instead(strips::PARTIAL_REBUILD.engine, input, lent, 12, fatal, 256 * u64::from(input.set))
+    }),
     // a byte is written behind the record
     Archive("record_write", |input, lent| after(records::WRITE.engine, input, lent, 0, |lent, len| if len < input.out_len {
         lent.written(0)[len] = 0;
