@@ -13,6 +13,20 @@ struct job {
     uint32_t lost; /* data disks only where the libraries take part */
 };
 
+/* the head of the card; its columns are put one by one */
+static inline void job_start(struct job *job, int k, int m)
+{
+    job->card[0] = k;
+    job->card[1] = m;
+    job->card_len = 2 + 2 * (size_t)m;
+}
+
+static inline void job_put_column(struct job *job, int j, uint32_t column)
+{
+    job->card[2 + 2 * j] = column & 255;
+    job->card[3 + 2 * j] = column >> 8;
+}
+
 static inline uint32_t job_column(const struct job *job, int j)
 {
     return job->card[2 + 2 * j] + 256u * job->card[3 + 2 * j];
@@ -29,6 +43,13 @@ static inline void job_take(struct job *job, size_t strip_len, uint8_t *bytes, s
     job->strip_len = strip_len;
     job->stripe_len = (size_t)(job->card[0] + job->card[1]) * strip_len;
     job->stripe = bytes + s * job->stripe_len;
+}
+
+/* how many calls make a round that can be timed: the more, the shorter the strips */
+static inline size_t job_calls(const struct job *job)
+{
+    size_t calls = 1 + 4000000 / (job->strip_len * job->card[0] * job->card[1]);
+    return calls < 2000 ? calls : 2000;
 }
 
 #endif

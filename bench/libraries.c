@@ -18,13 +18,9 @@ static xor_code_t *own_code(void)
 void own_card(struct job *job)
 {
     xor_code_t *code = own_code();
-    job->card[0] = code->k;
-    job->card[1] = code->m;
-    job->card_len = 2 + 2 * (size_t)code->m;
-    for (int j = 0; j < code->m; j++) {
-        job->card[2 + 2 * j] = code->parity_bms[j] & 255;
-        job->card[3 + 2 * j] = code->parity_bms[j] >> 8;
-    }
+    job_start(job, code->k, code->m);
+    for (int j = 0; j < code->m; j++)
+        job_put_column(job, j, code->parity_bms[j]);
     free(code);
 }
 

@@ -20,19 +20,6 @@ static uint8_t right[LARGEST_STRIPE]; /* the encoded stripe */
 
 /* ---- the cards and the losses */
 
-static void put_column(struct job *job, int j, uint32_t column)
-{
-    job->card[2 + 2 * j] = column & 255;
-    job->card[3 + 2 * j] = column >> 8;
-}
-
-static void start_card(struct job *job, int k, int m)
-{
-    job->card[0] = k;
-    job->card[1] = m;
-    job->card_len = 2 + 2 * (size_t)m;
-}
-
 /* data disk 0 and the parities that name it: none of them is determined where all are lost */
 static uint32_t first_row(const struct job *job)
 {
@@ -65,18 +52,18 @@ static int fits(const struct job *job, uint32_t disks)
 static void coins(struct job *job, int k, int m, uint32_t disks)
 {
     do {
-        start_card(job, k, m);
+        job_start(job, k, m);
         for (int j = 0; j < m; j++)
-            put_column(job, j, 1 + below(((uint32_t)1 << k) - 1));
+            job_put_column(job, j, 1 + below(((uint32_t)1 << k) - 1));
     } while (!fits(job, disks));
 }
 
 /* column j is data disks j and j + 1 */
 static void chain(struct job *job, int k, uint32_t disks)
 {
-    start_card(job, k, k);
+    job_start(job, k, k);
     for (int j = 0; j < k; j++)
-        put_column(job, j, (uint32_t)1 << j | (uint32_t)1 << (j + 1) % k);
+        job_put_column(job, j, (uint32_t)1 << j | (uint32_t)1 << (j + 1) % k);
     if (!fits(job, disks))
         stop("the chain's loss is another");
 }
@@ -171,7 +158,7 @@ static void check_refusals(const struct job *card, uint32_t lost)
     }
     job.strip_len = 65537;
     check_refusal(&job, 6);
-    put_column(&job, 2, 0);
+    job_put_column(&job, 2, 0);
     check_refusal(&job, 5 + 256 * 2);
     job.card_len--;
     check_refusal(&job, 4);
@@ -188,9 +175,7 @@ static void check_refusals(const struct job *card, uint32_t lost)
 /* the best of the times so far and that of one more round of calls */
 static double better(double best, struct job *job, contestant call)
 {
-    size_t calls = 1 + 4000000 / (job->strip_len * job->card[0] * job->card[1]);
-    if (calls > 2000)
-        calls = 2000;
+    size_t calls = job_calls(job);
     double start = now();
     for (size_t c = 0; c < calls; c++)
         call(job);

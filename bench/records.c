@@ -23,16 +23,13 @@ static size_t length;
 /* each bit of each column by a coin */
 static void coins(struct job *job, int k, int m)
 {
-    job->card[0] = k;
-    job->card[1] = m;
-    job->card_len = 2 + 2 * (size_t)m;
+    job_start(job, k, m);
     for (int j = 0; j < m; j++) {
         uint32_t column;
         do
             column = pseudo_random() & (((uint32_t)1 << k) - 1);
         while (column == 0);
-        job->card[2 + 2 * j] = column & 255;
-        job->card[3 + 2 * j] = column >> 8;
+        job_put_column(job, j, column);
     }
 }
 

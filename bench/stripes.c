@@ -20,46 +20,33 @@ static uint8_t right[LARGEST_STRIPE];
 
 /* ---- the cards */
 
-static void start_card(struct job *job, int k, int m)
-{
-    job->card[0] = k;
-    job->card[1] = m;
-    job->card_len = 2 + 2 * (size_t)m;
-}
-
-static void put_column(struct job *job, int j, uint32_t column)
-{
-    job->card[2 + 2 * j] = column & 255;
-    job->card[3 + 2 * j] = column >> 8;
-}
-
 /* each column has every data disk */
 static void ones(struct job *job, int k, int m)
 {
-    start_card(job, k, m);
+    job_start(job, k, m);
     for (int j = 0; j < m; j++)
-        put_column(job, j, ((uint32_t)1 << k) - 1);
+        job_put_column(job, j, ((uint32_t)1 << k) - 1);
 }
 
 /* each column has one data disk */
 static void one_bit(struct job *job, int k, int m)
 {
-    start_card(job, k, m);
+    job_start(job, k, m);
     for (int j = 0; j < m; j++)
-        put_column(job, j, (uint32_t)1 << j % k);
+        job_put_column(job, j, (uint32_t)1 << j % k);
 }
 
 /* each bit of each column by a coin; at least two data disks in each, and data disks 0 and 1 can be lost together */
 static void coins(struct job *job, int k, int m)
 {
     do {
-        start_card(job, k, m);
+        job_start(job, k, m);
         for (int j = 0; j < m; j++) {
             uint32_t column;
             do
                 column = pseudo_random() & (((uint32_t)1 << k) - 1);
             while ((column & (column - 1)) == 0);
-            put_column(job, j, column);
+            job_put_column(job, j, column);
         }
     } while (bridgecrumb_verdict(job->card, job->card_len, 3) != 0);
 }
@@ -127,9 +114,7 @@ static void encoded_stripe(struct job *job, size_t strip_len)
 /* the best of the times so far and that of one more round of calls */
 static double better(double best, struct job *job, contestant call)
 {
-    size_t calls = 1 + 4000000 / (job->strip_len * job->card[0] * job->card[1]);
-    if (calls > 2000)
-        calls = 2000;
+    size_t calls = job_calls(job);
     double start = now();
     for (size_t c = 0; c < calls; c++)
         call(job);

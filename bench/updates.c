@@ -26,15 +26,12 @@ static size_t count;                     /* of the stripes */
 /* the first `naming` columns have every data disk, the others every one but DISK */
 static void naming_card(struct job *job, int k, int m, int naming)
 {
-    job->card[0] = k;
-    job->card[1] = m;
-    job->card_len = 2 + 2 * (size_t)m;
+    job_start(job, k, m);
     for (int j = 0; j < m; j++) {
         uint32_t column = ((uint32_t)1 << k) - 1;
         if (j >= naming)
             column ^= (uint32_t)1 << DISK;
-        job->card[2 + 2 * j] = column & 255;
-        job->card[3 + 2 * j] = column >> 8;
+        job_put_column(job, j, column);
     }
 }
 
