@@ -91,22 +91,12 @@ static const struct {
 
 /* ---- the bytes */
 
-static void encoded_stripe(struct job *job, size_t strip_len)
-{
-    job_take(job, strip_len, stripe, 0);
-    fill(stripe, job->stripe_len);
-    plain_encode(job);
-    memcpy(right, stripe, job->stripe_len);
-}
-
 /* other bytes in the lost strips, and the call: afterwards the stripe is the encoded one, but for the disks that are left */
 static void check(int c, struct job *job, uint32_t left)
 {
     static uint8_t before[LARGEST_STRIPE];
     uint64_t answer = 256 * (uint64_t)(c == REBUILD ? (uint32_t)__builtin_popcount(job->lost) : left);
-    for (int d = 0; d < job->card[0] + job->card[1]; d++)
-        if (job->lost >> d & 1)
-            fill(job_strip(job, d), job->strip_len);
+    fill_strips(job, job->lost);
     memcpy(before, stripe, job->stripe_len);
     if (contestants[c].call(job) != answer)
         stop("an answer of a rebuild differs from plain C's");
@@ -134,7 +124,7 @@ static void check_refusal(struct job *job, uint64_t answer)
 static void check_refusals(const struct job *card, uint32_t lost)
 {
     struct job job = *card;
-    encoded_stripe(&job, 17);
+    encoded_stripe(&job, 17, stripe, right);
     job.lost = lost;
     fill(stripe, 17); /* disk 0 is lost */
     uint32_t survivors = ~lost & (uint32_t)(((uint64_t)1 << (job.card[0] + job.card[1])) - 1);
@@ -210,7 +200,7 @@ static void rows(const char *name, const struct job *card, uint32_t lost, struct
     for (size_t l = 0; l < sizeof strip_lens / sizeof *strip_lens; l++) {
         double best[CONTESTANTS] = {1e9, 1e9, 1e9};
         struct job job = *card;
-        encoded_stripe(&job, strip_lens[l]);
+        encoded_stripe(&job, strip_lens[l], stripe, right);
         job.lost = lost;
         for (int c = 0; c <= last; c++)
             check(c, &job, left);

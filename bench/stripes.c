@@ -91,22 +91,12 @@ static const struct peer rebuilders[PEERS] = {
 /* other bytes in the strips that the call writes, then the call: the stripe is right again */
 static void check(struct job *job, const char *name, contestant shown, uint32_t written)
 {
-    for (int d = 0; d < job->card[0] + job->card[1]; d++)
-        if (written >> d & 1)
-            fill(job_strip(job, d), job->strip_len);
+    fill_strips(job, written);
     shown(job);
     if (memcmp(stripe, right, job->stripe_len) != 0) {
         fprintf(stderr, "%s, strip length %zu: ", name, job->strip_len);
         stop("the stripe differs from the plain loop's");
     }
-}
-
-static void encoded_stripe(struct job *job, size_t strip_len)
-{
-    job_take(job, strip_len, stripe, 0);
-    fill(stripe, job->stripe_len);
-    plain_encode(job);
-    memcpy(right, stripe, job->stripe_len);
 }
 
 /* ---- the times */
@@ -182,7 +172,7 @@ static void print_head(const char *name)
 static void print_race(const struct race *race, struct job *job, size_t strip_len, double least[PEERS])
 {
     double ratios[PEERS];
-    encoded_stripe(job, strip_len);
+    encoded_stripe(job, strip_len, stripe, right);
     libraries_open(job, race->among >> API & 1);
     run(race, job, ratios);
     libraries_close();
@@ -224,9 +214,9 @@ static void steady_rows(int k, int m, double *least, double *most)
     ones(&dense, k, m);
     for (int l = 0; l < 6; l++) {
         double of_sparse = 1e9, of_dense = 1e9, plain_sparse = 1e9, plain_dense = 1e9;
-        encoded_stripe(&sparse, strip_lens[l]);
+        encoded_stripe(&sparse, strip_lens[l], stripe, right);
         check(&sparse, "engine", engine_encode, parities_of(&sparse));
-        encoded_stripe(&dense, strip_lens[l]);
+        encoded_stripe(&dense, strip_lens[l], stripe, right);
         check(&dense, "engine", engine_encode, parities_of(&dense));
         for (int round = 0; round < ROUNDS; round++) {
             of_sparse = better(of_sparse, &sparse, engine_encode);

@@ -103,9 +103,7 @@ static void encoded_tray(const struct job *card, size_t strip_len, uint32_t set)
 static void spoil(void)
 {
     for (int s = 0; s < STRIPES; s++)
-        for (int d = 0; d < jobs[s].card[0]; d++)
-            if (lost[s] >> d & 1)
-                fill(job_strip(&jobs[s], d), jobs[s].strip_len);
+        fill_strips(&jobs[s], lost[s]);
 }
 
 /* the tray is right again, and every lost disk was mended */
