@@ -13,18 +13,25 @@ struct job {
     uint32_t lost; /* data disks only where the libraries take part */
 };
 
+static inline void put_column(uint8_t *card, int j, uint32_t column)
+{
+    card[2 + 2 * j] = column & 255;
+    card[3 + 2 * j] = column >> 8;
+}
+
+/* a chain of k data disks: column j is data disks j and j + 1 */
+static inline void put_chain(uint8_t *card, int k)
+{
+    for (int j = 0; j < k; j++)
+        put_column(card, j, (uint32_t)1 << j | (uint32_t)1 << (j + 1) % k);
+}
+
 /* the head of the card; its columns are put one by one */
 static inline void job_start(struct job *job, int k, int m)
 {
     job->card[0] = k;
     job->card[1] = m;
     job->card_len = 2 + 2 * (size_t)m;
-}
-
-static inline void job_put_column(struct job *job, int j, uint32_t column)
-{
-    job->card[2 + 2 * j] = column & 255;
-    job->card[3 + 2 * j] = column >> 8;
 }
 
 static inline uint32_t job_column(const struct job *job, int j)

@@ -20,7 +20,7 @@ void own_card(struct job *job)
     xor_code_t *code = own_code();
     job_start(job, code->k, code->m);
     for (int j = 0; j < code->m; j++)
-        job_put_column(job, j, code->parity_bms[j]);
+        put_column(job->card, j, code->parity_bms[j]);
     free(code);
 }
 

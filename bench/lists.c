@@ -8,6 +8,7 @@
 #include "bench.h"
 #include "bridgecrumb.h"
 #include "chance.h"
+#include "job.h"
 #include "peer.h"
 
 #define BEST_OF 40
@@ -15,12 +16,6 @@
 #define SETS 4096
 
 /* ---- the cards */
-
-static void put_column(uint8_t *card, int j, uint32_t column)
-{
-    card[2 + 2 * j] = column & 255;
-    card[3 + 2 * j] = column >> 8;
-}
 
 /* each bit of each column by a coin */
 static void dense(uint8_t *card, int k, int m)
@@ -36,13 +31,11 @@ static void dense(uint8_t *card, int k, int m)
     }
 }
 
-/* column j is data disks j and j + 1 */
 static void chain(uint8_t *card, int k)
 {
     card[0] = k;
     card[1] = k;
-    for (int j = 0; j < k; j++)
-        put_column(card, j, (uint32_t)1 << j | (uint32_t)1 << (j + 1) % k);
+    put_chain(card, k);
 }
 
 /* ---- the comparison, the times and the stack */

@@ -54,16 +54,14 @@ static void coins(struct job *job, int k, int m, uint32_t disks)
     do {
         job_start(job, k, m);
         for (int j = 0; j < m; j++)
-            job_put_column(job, j, 1 + below(((uint32_t)1 << k) - 1));
+            put_column(job->card, j, 1 + below(((uint32_t)1 << k) - 1));
     } while (!fits(job, disks));
 }
 
-/* column j is data disks j and j + 1 */
 static void chain(struct job *job, int k, uint32_t disks)
 {
     job_start(job, k, k);
-    for (int j = 0; j < k; j++)
-        job_put_column(job, j, (uint32_t)1 << j | (uint32_t)1 << (j + 1) % k);
+    put_chain(job->card, k);
     if (!fits(job, disks))
         stop("the chain's loss is another");
 }
@@ -148,7 +146,7 @@ static void check_refusals(const struct job *card, uint32_t lost)
     }
     job.strip_len = 65537;
     check_refusal(&job, 6);
-    job_put_column(&job, 2, 0);
+    put_column(job.card, 2, 0);
     check_refusal(&job, 5 + 256 * 2);
     job.card_len--;
     check_refusal(&job, 4);

@@ -29,7 +29,7 @@ static void coins(struct job *job, int k, int m)
         do
             column = pseudo_random() & (((uint32_t)1 << k) - 1);
         while (column == 0);
-        job_put_column(job, j, column);
+        put_column(job->card, j, column);
     }
 }
 

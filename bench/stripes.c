@@ -25,7 +25,7 @@ static void ones(struct job *job, int k, int m)
 {
     job_start(job, k, m);
     for (int j = 0; j < m; j++)
-        job_put_column(job, j, ((uint32_t)1 << k) - 1);
+        put_column(job->card, j, ((uint32_t)1 << k) - 1);
 }
 
 /* each column has one data disk */
@@ -33,7 +33,7 @@ static void one_bit(struct job *job, int k, int m)
 {
     job_start(job, k, m);
     for (int j = 0; j < m; j++)
-        job_put_column(job, j, (uint32_t)1 << j % k);
+        put_column(job->card, j, (uint32_t)1 << j % k);
 }
 
 /* each bit of each column by a coin; at least two data disks in each, and data disks 0 and 1 can be lost together */
@@ -46,7 +46,7 @@ static void coins(struct job *job, int k, int m)
             do
                 column = pseudo_random() & (((uint32_t)1 << k) - 1);
             while ((column & (column - 1)) == 0);
-            job_put_column(job, j, column);
+            put_column(job->card, j, column);
         }
     } while (bridgecrumb_verdict(job->card, job->card_len, 3) != 0);
 }

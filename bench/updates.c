@@ -31,7 +31,7 @@ static void naming_card(struct job *job, int k, int m, int naming)
         uint32_t column = ((uint32_t)1 << k) - 1;
         if (j >= naming)
             column ^= (uint32_t)1 << DISK;
-        job_put_column(job, j, column);
+        put_column(job->card, j, column);
     }
 }
 

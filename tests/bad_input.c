@@ -142,6 +142,8 @@ static void partial_rebuilds(void)
     TRY(7, 0, partial_rebuild(c1, 8, 1, 15, lent.stripe, 8));
     TRY(12, 0, partial_rebuild(c3, 6, 1, 1, lent.stripe, 4)); /* disk 1 and its mirror differ */
     TRY(12, 0, partial_rebuild(c3, 6, 1, 5, lent.stripe, 4)); /* in a fatal loss too */
+    /* disk 31 would come back, but disk 0 is not what its mirrors are */
+    TRY(12, 0, partial_rebuild(most, 34, 1, 0x80000002, (uint8_t *)&lent, 32));
 }
 
 static void trays(void)

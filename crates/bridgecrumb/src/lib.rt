@@ -49,7 +49,8 @@ pub extern "C" fn bridgecrumb_update(
     updated_code(updater::update(card, l, stripe, disk, new))
 }
 
-// The verdict call: the disks of the set that the survivors don't determine. Its loss is fatal where there is one.
+// The verdict call: the disks of the set that the survivors don't determine. The loss of the set is fatal where
+// there is such a disk.
 #[no_mangle]
 pub extern "C" fn bridgecrumb_verdict(card: &[u8], set: u32) -> u64
     ensures { λ r. ⌜ r ≡ coded (verdictReport (now (card .entry)) set) ⌝ }

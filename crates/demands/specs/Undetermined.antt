@@ -4,27 +4,36 @@
 use mathlib.Core.Path.{_≡_}
 use mathlib.Core.Logic.{_≢_, _↔_}
 use mathlib.Core.List.{List, [], _∷_}
-use Prim.Native.Nat.{ℕ, _*_, _≤_, _<_}
+use Prim.Native.Nat.{ℕ, _*_, _^_, _≤_, _<_}
 use lib.Dec.{T}
 use lib.ListN.{length}
 use Rattle.gf2.specs.Sets.{has, _⊆_}
 use Rattle.flat.specs.Lists.{member}
-use Rattle.flat.specs.Cards.{codeOf, disks, setOk}
+use Rattle.flat.specs.Cards.{Code, codeOf, disks, setOk}
 use Rattle.flat.specs.Strips.{lengthOk}
-use Rattle.flat.specs.Erasures.{survivors, fatal, undetermined, undeterminedSet, erasures}
+use Rattle.flat.specs.Erasures.{holdsBit, survivors, fatal, undeterminedSet, erasures}
 use Rattle.flat.specs.Equations.{equations}
 use Rattle.flat.specs.Rebuilding.{Agreeing}
 use Rattle.flat.specs.Faults.{accepted, refused, cardReport, verdictReport, rebuildReport}
 use Rattle.partial_rebuilding.specs.Faults.{partialReport}
 use Rattle.demands.specs.Demand3.{listed, told}
 
+-- two data words, alike on the survivors of S, which differ on disk d
+pub record Differing (C : Code) (S d : ℕ) : Type 0 where
+  pub x : ℕ
+  pub y : ℕ
+  pub x-word : x < 2 ^ C .k
+  pub y-word : y < 2 ^ C .k
+  pub alike : (i : ℕ) → i < disks C → (T (has S i) → ⊥) → holdsBit C x i ≡ holdsBit C y i
+  pub differ : holdsBit C x d ≢ holdsBit C y d
+
 -- U is the set of undetermined disks
 pub record AgreesWith (card : List ℕ) (S L : ℕ) (stripe slice : List ℕ) (slices : ℕ → List ℕ) (U : ℕ) : Type 0 where
   -- the verdict call gives it: lost disks alone, those on which two data words differ that are alike on the survivors
   pub verdict : verdictReport card S ≡ accepted (U ∷ [])
   pub lost : T (U ⊆ S)
-  pub differ : (d : ℕ) → d < disks (codeOf card) → T (has U d) ↔ T (undetermined (codeOf card) S d)
-  -- the set is fatal where it isn't empty, and there the rebuilder refuses it so
+  pub words : (d : ℕ) → d < disks (codeOf card) → T (has U d) ↔ Differing (codeOf card) S d
+  -- the lost set is fatal exactly where U isn't empty, and there the rebuilder refuses it as fatal
   pub not-empty : T (fatal (codeOf card) S) ↔ (U ≢ 0)
   pub rebuilder : (rebuildReport card L S stripe ≡ refused 11 []) ↔ (U ≢ 0)
   -- a disk is in it exactly where some listed set inside the lost set holds it

@@ -1,7 +1,7 @@
 -- The values that tell the wrong ones apart. The contents of four bytes are too many to go through: what rebuilding leaves is computed by what it
 -- fills, and whether a content agrees by the check words.
 -- Assumes nothing.
-use mathlib.Core.Path.{_≡_, refl, ap, _∙_}
+use mathlib.Core.Path.{_≡_, refl, sym, ap, _∙_}
 use mathlib.Core.List.{List, [], _∷_}
 use Prim.Native.Nat.{ℕ, zero, suc, _*_}
 use native.Mathlib.Omega.{arith}
@@ -11,19 +11,20 @@ use Rattle.gf2.proofs.Tests.{if-true}
 use Rattle.flat.specs.Lists.{Bytes}
 use Rattle.flat.specs.Cards.{codeOf, disks, setOk}
 use Rattle.flat.specs.Strips.{lengthOk}
-use Rattle.flat.specs.Erasures.{fatal, undeterminedSet, determinedSet}
+use Rattle.flat.specs.Erasures.{fatal, determinedSet}
 use Rattle.flat.specs.Rebuilding.{Agreeing, agrees}
 use Rattle.flat.specs.Repairs.{filled, consistent, equationAmong}
 use Rattle.flat.specs.Faults.{Report, accepted, refused, cardReport, verdictReport, disksReport, rebuildReport}
 use Rattle.flat.proofs.Agreement.{some-agreeing}
 use Rattle.flat.proofs.Consistency.{agreeing-consistent}
 use Rattle.flat.proofs.Rebuilds.{rebuild-is}
+use Rattle.flat.proofs.Verdicts.{verdict-is}
 use Rattle.partial_rebuilding.specs.Impostors.{C1, C6, lost-four, VerdictTold, BringsBackOne, BringsBackParity, TwelveIfFatal}
 use Rattle.partial_rebuilding.proofs.Calls.{partial-right, partial-filled}
 
 pub verdict-told : VerdictTold
-unfolding fatal undeterminedSet codeOf verdictReport
-verdict-told = record { fatal-15 = tt; some-15 = refl; some-6 = refl; all-127 = refl; outside-128 = refl }
+unfolding fatal codeOf verdictReport
+verdict-told = record { fatal-15 = tt; some-15 = refl; some-6 = refl; all-127 = refl; none-7 = refl; outside-128 = refl }
 
 -- a fatal set of an accepted card: rebuilding gives 11
 fatal-report : (card : List ℕ) (k m S L : ℕ) (stripe : List ℕ) → cardReport card ≡ accepted (k ∷ m ∷ []) → T (setOk (codeOf card) S) → T (lengthOk L)
@@ -59,7 +60,7 @@ brings-back-one =
     let r = partial-right C1 4 3 15 1 lost-four refl tt tt refl .some data-four four-agree .answer in
     record {
       rebuild = fatal-report C1 4 3 15 1 lost-four refl tt tt refl (verdict-told .fatal-15);
-      answer = r ∙ ap (λ (U : ℕ). accepted (U ∷ [])) (verdict-told .some-15);
+      answer = r ∙ sym (verdict-is C1 4 3 refl 15 tt) ∙ verdict-told .some-15;
       stripe = partial-filled C1 1 15 lost-four (ap (λ (x : Report). x .number) r) refl ∙ four-filled;
     }
 
@@ -86,7 +87,7 @@ unfolding cardReport lengthOk setOk codeOf disks
 brings-back-parity =
     let r = partial-right C6 2 1 6 1 (5 ∷ 9 ∷ 7 ∷ []) refl tt tt refl .some data-two two-agree .answer in
     record {
-      answer = r ∙ ap (λ (U : ℕ). accepted (U ∷ [])) (verdict-told .some-6);
+      answer = r ∙ sym (verdict-is C6 2 1 refl 6 tt) ∙ verdict-told .some-6;
       stripe = partial-filled C6 1 6 (5 ∷ 9 ∷ 7 ∷ []) (ap (λ (x : Report). x .number) r) refl ∙ two-filled;
     }
 

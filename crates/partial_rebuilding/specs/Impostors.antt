@@ -5,7 +5,7 @@ use mathlib.Core.List.{List, [], _∷_}
 use Prim.Native.Nat.{ℕ}
 use lib.Dec.{T}
 use Rattle.flat.specs.Cards.{codeOf}
-use Rattle.flat.specs.Erasures.{fatal, undeterminedSet}
+use Rattle.flat.specs.Erasures.{fatal}
 use Rattle.flat.specs.Faults.{accepted, refused, verdictReport, rebuildReport}
 use Rattle.partial_rebuilding.specs.Faults.{partialReport, partialStripe}
 
@@ -16,13 +16,14 @@ C1 = 4 ∷ 3 ∷ 7 ∷ 0 ∷ 11 ∷ 0 ∷ 13 ∷ 0 ∷ []
 abbrev pub C6 : List ℕ
 C6 = 2 ∷ 1 ∷ 1 ∷ 0 ∷ []
 
--- A verdict that is always empty, or the whole set where it is fatal: of C1's set 15 disk 0 is determined, and of C6's set 6 disk 2; of C1's set 127
--- none is. Or a verdict that takes a disk which the code lacks.
+-- A verdict that is always empty, always the whole set, or the whole set where it is fatal: of C1's set 15, which is fatal, disk 0 is determined,
+-- and of C6's set 6 disk 2; of C1's set 127 no disk is, and of its set 7 every one. Or a verdict that takes a disk which the code lacks.
 pub record VerdictTold : Type 0 where
   pub fatal-15 : T (fatal (codeOf C1) 15)
-  pub some-15 : undeterminedSet (codeOf C1) 15 ≡ 14
-  pub some-6 : undeterminedSet (codeOf C6) 6 ≡ 2
-  pub all-127 : undeterminedSet (codeOf C1) 127 ≡ 127
+  pub some-15 : verdictReport C1 15 ≡ accepted (14 ∷ [])
+  pub some-6 : verdictReport C6 6 ≡ accepted (2 ∷ [])
+  pub all-127 : verdictReport C1 127 ≡ accepted (127 ∷ [])
+  pub none-7 : verdictReport C1 7 ≡ accepted (0 ∷ [])
   pub outside-128 : verdictReport C1 128 ≡ refused 8 []
 
 -- 11 where the set is fatal, restoring nothing, 0 where nothing can be restored: C7's stripe, with other bytes in the four lost data strips. Disk 0 gets

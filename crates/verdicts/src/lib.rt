@@ -30,7 +30,8 @@ fn verdict_columns(columns: &[u8], k: usize, m: usize, set: u32) -> SetVerdict
     SetVerdict::Undetermined(undetermined)
 }
 
-// The verdict call: the disks of the set that the survivors don't determine. Its loss is fatal where there is one.
+// The verdict call: the disks of the set that the survivors don't determine. The loss of the set is fatal where
+// there is such a disk.
 pub fn verdict(card: &[u8], set: u32) -> SetVerdict
     ensures { λ r. ⌜ report r ≡ verdictReport (now (card .entry)) set ⌝ }
 {

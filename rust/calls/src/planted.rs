@@ -105,8 +105,8 @@ const PLANTED: [Planted; 39] = [
     })),
     // of a fatal loss the survivors are not looked at
     Archive("partial_rebuild", |input, lent| {
-        let fatal = bridgecrumb::undetermined(&input.card, input.set) != Ok(0);
-        instead(strips::PARTIAL_REBUILD.engine, input, lent, 12, fatal, 256 * u64::from(input.set))
+        let undetermined = bridgecrumb::undetermined(&input.card, input.set).unwrap_or(0);
+        instead(strips::PARTIAL_REBUILD.engine, input, lent, 12, undetermined != 0, 256 * u64::from(undetermined))
     }),
     // a byte is written behind the record
     Archive("record_write", |input, lent| after(records::WRITE.engine, input, lent, 0, |lent, len| if len < input.out_len {

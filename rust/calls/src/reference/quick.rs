@@ -10,7 +10,14 @@ pub fn undetermined(code: &Code, set: u32) -> u32 {
     code.held.iter().filter(|&held| held & !set == 0).fold(0, |sum, held| sum | held)
 }
 
-/// The same by the definition with two data words: sorted by what the survivors hold, those that agree there stand together, and a disk on
+/// Fatal by the definition with two different data words: sorted by what the survivors hold, two equal ones are neighbours.
+pub fn fatal_by_two_words(code: &Code, set: u32) -> bool {
+    let mut left: Vec<u32> = code.held.iter().map(|held| held & !set).collect();
+    left.sort_unstable();
+    left.windows(2).any(|two| two[0] == two[1])
+}
+
+/// The undetermined disks by the definition with two data words: sorted by what the survivors hold, those that agree there stand together, and a disk on
 /// which two of these differ is one on which two neighbours do.
 pub fn undetermined_by_two_words(code: &Code, set: u32) -> u32 {
     let mut words = code.held.clone();

@@ -114,15 +114,15 @@ impl Loss<'_> {
     }
 }
 
-/// The statements; answers whether the set is fatal.
+/// The statements about the set, and those about its disks; answers whether the set is fatal.
 fn statements(choice: &mut Choice, card: &[u8], code: &Code, lists: &Lists, set: u32) -> bool {
-    let undetermined = quick::undetermined_by_two_words(code, set);
-    let (fatal, loss) = (undetermined != 0, Loss::of(choice, card, code, set));
+    let (fatal, undetermined) = (quick::fatal_by_two_words(code, set), quick::undetermined_by_two_words(code, set));
+    let loss = Loss::of(choice, card, code, set);
     let (verdict, untold) = (bridgecrumb::undetermined(card, set).unwrap(), lists.untold(set));
-    let of_disks = [undetermined, verdict, lists.in_listed(set), untold, loss.partly_rebuilt()];
-    assert_eq!(of_disks, [undetermined; 5], "{card:?}, set {set:#x}");
     let of_set = [fatal, verdict != 0, lists.contains_listed(set), untold != 0, loss.rebuilder_says_11()];
     assert_eq!(of_set, [fatal; 5], "{card:?}, set {set:#x}");
+    let of_disks = [undetermined, verdict, lists.in_listed(set), untold, loss.partly_rebuilt()];
+    assert_eq!(of_disks, [undetermined; 5], "{card:?}, set {set:#x}");
     fatal
 }
 
