@@ -9,12 +9,11 @@ use lib.Dec.{T}
 use lib.Pow.{pow-lt}
 use Rattle.gf2.specs.Sets.{has, _⊕_, _∖_, _⊆_, over}
 use Rattle.gf2.specs.Span.{InSpan, Minimal}
-use Rattle.gf2.proofs.Tests.{T-ext, eqb-in, eqb-out}
 use Rattle.gf2.proofs.Bits.{bit-of-zero, not-has}
 use Rattle.gf2.proofs.Xor.{⊕-self, ⊕-cancel, ⊕-lt}
-use Rattle.gf2.proofs.Subsets.{⊆-in, ∖-out, ⊆-le, power-in, power-out, less-back, less-⊆, plus-has, plus-back, plus-⊆}
+use Rattle.gf2.proofs.Subsets.{⊆-in, ∖-out, ⊆-le, power-in, less-back, less-⊆, plus-has, plus-back, plus-⊆}
 use Rattle.gf2.proofs.OneRow.{smallest-holder}
-use Rattle.gf2.proofs.Sums.{over-⊕, over-only}
+use Rattle.gf2.proofs.Sums.{over-⊕, over-disk}
 use Rattle.flat.specs.Cards.{Code, disks}
 use Rattle.flat.specs.Strips.{holds}
 use Rattle.flat.specs.Erasures.{holdsBit}
@@ -31,13 +30,8 @@ equation-least C d E = (least-out (disks C) (equation C d) E, least-in (disks C)
 module _ (C : Code) (d : ℕ) (l : d < disks C) where
   -- ---- an equation and its disk
 
-  one-sum : (f : ℕ → ℕ) → over (disks C) (2 ^ d) f ≡ f d
-  one-sum f =
-      over-only (disks C) (2 ^ d) d f l
-      (λ i m. T-ext (λ t. eqb-in (power-out d i t)) (λ t. subst (λ (x : ℕ). T (has (2 ^ d) x)) (sym (eqb-out i d t)) (power-in d)))
-
   pub with-sum : (E : ℕ) (f : ℕ → ℕ) → over (disks C) (E ⊕ 2 ^ d) f ≡ over (disks C) E f ⊕ f d
-  with-sum E f = over-⊕ (disks C) E (2 ^ d) f ∙ ap (λ (y : ℕ). over (disks C) E f ⊕ y) (one-sum f)
+  with-sum E f = over-⊕ (disks C) E (2 ^ d) f ∙ ap (λ (y : ℕ). over (disks C) E f ⊕ y) (over-disk (disks C) d f l)
 
   pub equation-word : (E : ℕ) → E < 2 ^ disks C → T (equation C d E) → InSpan (checks C) (E ⊕ 2 ^ d)
   equation-word E h t =

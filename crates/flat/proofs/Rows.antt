@@ -14,9 +14,9 @@ use Rattle.gf2.specs.If.{if_then_else_}
 use Rattle.gf2.specs.Sets.{bit, has, _⊕_, over}
 use Rattle.gf2.specs.Span.{InSpan, Independent, select}
 use Rattle.gf2.proofs.Tests.{T-ext, ltb-out, eqb-in, eqb-out}
-use Rattle.gf2.proofs.Bits.{bit-of-zero, bit-shift, bit-pow, bit-⊕-bits, ext-below, has-if}
+use Rattle.gf2.proofs.Bits.{bit-of-zero, bit-shift, bit-⊕-bits, ext-below, has-if}
 use Rattle.gf2.proofs.Xor.{⊕-lt, ⊕-self, zero-⊕, ⊕-zero, ⊕-cancel}
-use Rattle.gf2.proofs.Sums.{over-cong, over-⊕, over-none, over-bit, over-lt, over-set, over-only, over-append, over-comm, over-one, over-power, if-has, select-in, in-select}
+use Rattle.gf2.proofs.Sums.{over-cong, over-⊕, over-none, over-bit, over-lt, over-set, over-only, over-disk, over-append, over-comm, over-one, over-power, if-has, select-in, in-select}
 use Rattle.flat.specs.Lists.{tabulate}
 use Rattle.flat.specs.Cards.{Code, disks, column}
 use Rattle.flat.specs.Strips.{holds}
@@ -164,7 +164,7 @@ module _ (C : Code) where
   unfolding checks
   check-word j l =
       subst (InSpan (checks C))
-      (select-tabulate (C .m) (2 ^ j) (check C) ∙ over-only (C .m) (2 ^ j) j (check C) l (λ i m. has-if (2 ^ j) i (eqb i j) (bit-pow j i)))
+      (select-tabulate (C .m) (2 ^ j) (check C) ∙ over-disk (C .m) j (check C) l)
       (select-in (checks C) (2 ^ j))
 
   pub select-checks-lt : (p : ℕ) → select (checks C) p < 2 ^ disks C

@@ -16,7 +16,7 @@ use Rattle.gf2.specs.Span.{InSpan, select}
 use Rattle.gf2.proofs.Tests.{dec, T-true, T-false, eqb-in, eqb-out, below-suc}
 use Rattle.gf2.proofs.Bits.{bit-cases, bit-low, bit-suc, bit-of-zero, bit-shift, bit-pow, bit-⊕, bit-⊕-bits, not-has, has-one, has-zero, has-if}
 use Rattle.gf2.proofs.Xor.{⊕-assoc, ⊕-self, zero-⊕, ⊕-zero, ⊕-back, ⊕-four, ⊕-lt}
-use Rattle.gf2.proofs.Subsets.{∖-in, ∖-out}
+use Rattle.gf2.proofs.Subsets.{∖-in, ∖-out, less-back}
 use Rattle.gf2.proofs.Spans.{at}
 
 -- ---- over
@@ -131,6 +131,14 @@ over-only (suc n) S d f l h = go (below-suc d n l) (λ m. over-only n S d f m (�
         ∙ over-zero n S)
         ∙ zero-⊕ (f n) ∙ ap f (sym q))
 
+pub over-disk : (n d : ℕ) (f : ℕ → ℕ) → d < n → over n (2 ^ d) f ≡ f d
+over-disk n d f l = over-only n (2 ^ d) d f l (λ i m. has-if (2 ^ d) i (eqb i d) (bit-pow d i))
+
+-- a disk taken out of a set
+pub over-without : (n S d : ℕ) (f : ℕ → ℕ) → d < n → T (has S d) → over n S f ≡ over n (S ∖ 2 ^ d) f ⊕ f d
+over-without n S d f l t =
+    ap (λ (R : ℕ). over n R f) (sym (less-back S d t)) ∙ over-⊕ n (S ∖ 2 ^ d) (2 ^ d) f ∙ ap (λ (x : ℕ). over n (S ∖ 2 ^ d) f ⊕ x) (over-disk n d f l)
+
 -- the disks below k, and those from k on
 pub over-append : (k m S : ℕ) (f : ℕ → ℕ) → over (k + m) S f ≡ over k S f ⊕ over m (S / 2 ^ k) (λ j. f (k + j))
 unfolding over has
@@ -178,7 +186,7 @@ over-comm (suc n) c x = ap₂ (λ (a b : ℕ). a ⊕ b) (over-comm n c x) (go (b
 -- a sum with one term, written in two ways
 pub over-power : (n S d : ℕ) → d < n → over n S (bit (2 ^ d)) ≡ bit S d
 over-power n S d l =
-    over-comm n S (2 ^ d) ∙ over-only n (2 ^ d) d (bit S) l (λ i m. has-if (2 ^ d) i (eqb i d) (bit-pow d i))
+    over-comm n S (2 ^ d) ∙ over-disk n d (bit S) l
 
 -- values of which one alone is not 0
 pub over-at : (n S d v : ℕ) → d < n → over n S (λ i. if eqb d i then v else 0) ≡ (if has S d then v else 0)

@@ -6,7 +6,7 @@ ghost use mathlib.Core.Path.{_≡_};
 ghost use mathlib.Core.Bool.{not};
 ghost use mathlib.Core.List.{map};
 ghost use mathlib.Core.Logic.{_≢_};
-ghost use Prim.Native.Nat.{_^_, _≤_, _<_};
+ghost use Prim.Native.Nat.{_%_, _^_, _≤_, _<_};
 ghost use lib.Dec.{ltb};
 ghost use lib.ListN.{take};
 ghost use Rattle.gf2.specs.If.{if_then_else_};
@@ -82,6 +82,25 @@ pub fn lowest(set: u32) -> u32
     ensures { λ r. ⌜ (r ≡ lowest set) × (r < 32) ⌝ }
 {
     u32::trailing_zeros(set)
+}
+
+// The set without disk d.
+pub fn without(set: u32, d: u32) -> u32
+    requires { ⌜ d < 32 ⌝ }
+    ensures { λ r. ⌜ r ≡ set ∖ 2 ^ d ⌝ }
+{
+    outside(set, 1u32 << d)
+}
+
+// The disks of the set below n.
+pub fn first_of(set: u32, n: u32) -> u32
+    requires { ⌜ n ≤ 32 ⌝ }
+    ensures { λ r. ⌜ r ≡ set % 2 ^ n ⌝ }
+{
+    if n < 32 {
+        return set % (1u32 << n);
+    }
+    set
 }
 
 // Row v, XORed with row b where v holds disk d.

@@ -13,26 +13,30 @@ use Rattle.gf2.proofs.Xor.{⊕-zero}
 use Rattle.flat.specs.Lists.{tabulate}
 use Rattle.flat.specs.Strips.{byteOf}
 use Rattle.flat.proofs.Lists.{zeros, getD-tabulate, tabulate-cong}
-use Rattle.strip_blocks.specs.Totals.{total}
 
--- ---- a block of w bytes after i turns: byte t is f i t
+-- ---- a block of w bytes, of which byte t is f i t, where i tells how far the loop is
 
 pub record Summed (w : ℕ) (f : ℕ → ℕ → ℕ) (i : ℕ) (block : List ℕ) : Type 0 where
   pub so-far : block ≡ tabulate w (f i)
 
-pub summed-none : (w : ℕ) (f : ℕ → ℕ → ℕ) → ((t : ℕ) → f 0 t ≡ 0) → Summed w f 0 (replicate w 0)
-summed-none w f z = record { so-far = zeros w ∙ tabulate-cong w (λ t. 0) (f 0) (λ t h. sym (z t)) }
+pub summed-none : (w : ℕ) (f : ℕ → ℕ → ℕ) (i : ℕ) → ((t : ℕ) → f i t ≡ 0) → Summed w f i (replicate w 0)
+summed-none w f i z = record { so-far = zeros w ∙ tabulate-cong w (λ t. 0) (f i) (λ t h. sym (z t)) }
 
--- a turn XORs bytes in, or leaves the block as it is
+-- a turn XORs bytes in
+pub summed-more : (w : ℕ) (f : ℕ → ℕ → ℕ) (i j : ℕ) (block next : List ℕ) (x : ℕ → ℕ) → Summed w f i block
+    → next ≡ tabulate w (λ t. getD block t 0 ⊕ x t) → ((t : ℕ) → f i t ⊕ x t ≡ f j t) → Summed w f j next
+summed-more w f i j block next x r e step =
+    record {
+      so-far =
+          e ∙ tabulate-cong w (λ t. getD block t 0 ⊕ x t) (f j)
+          (λ t h. ap (λ (y : ℕ). y ⊕ x t) (ap (λ (l : List ℕ). getD l t 0) (r .so-far) ∙ getD-tabulate w (f i) t h) ∙ step t);
+    }
+
+-- or leaves the block as it is
 pub summed-if : (w : ℕ) (f : ℕ → ℕ → ℕ) (i : ℕ) (block next : List ℕ) (x : ℕ → ℕ) (b : Bool) → Summed w f i block
     → next ≡ (if b then tabulate w (λ t. getD block t 0 ⊕ x t) else block)
     → ((t : ℕ) → f i t ⊕ (if b then x t else 0) ≡ f (i + 1) t) → Summed w f (i + 1) next
-summed-if w f i block next x true r e step =
-    record {
-      so-far =
-          e ∙ tabulate-cong w (λ t. getD block t 0 ⊕ x t) (f (i + 1))
-          (λ t h. ap (λ (y : ℕ). y ⊕ x t) (ap (λ (l : List ℕ). getD l t 0) (r .so-far) ∙ getD-tabulate w (f i) t h) ∙ step t);
-    }
+summed-if w f i block next x true r e step = summed-more w f i (i + 1) block next x r e step
 summed-if w f i block next x false r e step =
     record { so-far = e ∙ r .so-far ∙ tabulate-cong w (f i) (f (i + 1)) (λ t h. sym (⊕-zero (f i t)) ∙ step t) }
 
@@ -49,9 +53,3 @@ over-more s l set t i = rw (add-one i)
 pub over-block : (s : List ℕ) (l set o i t : ℕ)
     → over i set (byteOf l s (o + t)) ⊕ (if has set i then getD s (i * l + o + t) 0 else 0) ≡ over (i + 1) set (byteOf l s (o + t))
 over-block s l set o i t = rw (add-assoc (i * l) o t) (over-more s l set (o + t) i)
-
--- and of the XOR of the strips at the first j places, one place further
-pub total-block : (s at : List ℕ) (o j t : ℕ)
-    → total j (λ q. getD s (getD at q 0 + (o + t)) 0) ⊕ getD s (getD at j 0 + o + t) 0 ≡ total (j + 1) (λ q. getD s (getD at q 0 + (o + t)) 0)
-unfolding total
-total-block s at o j t = rw (add-one j, add-assoc (getD at j 0) o t)

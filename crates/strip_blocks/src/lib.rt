@@ -12,16 +12,23 @@ ghost use Rattle.flat.specs.Lists.{every, tabulate, put};
 ghost use Rattle.flat.specs.Strips.{byteOf};
 
 mod bytes;
+mod few;
 mod narrow;
 mod places;
 
 pub use bytes::sum_1;
+pub use few::block_16;
+pub use few::is_sparse;
+pub use few::sum_few;
+pub use few::sum_few_16;
+pub use narrow::copy_first;
 pub use narrow::is_zero_16;
 pub use narrow::put_16;
+pub use narrow::put_first_16;
+pub use narrow::starts_zero_16;
 pub use narrow::sum_16;
 pub use places::Members;
 pub use places::members_of;
-pub use places::sum_at;
 
 // The block, XORed with the 128 bytes of the slice from a place on.
 pub(crate) fn added(block: [u8; 128], s: &[u8], at: usize) -> [u8; 128]

@@ -1,15 +1,16 @@
-// The same in blocks of 16 bytes, for strips shorter than 128 bytes.
+// The same in blocks of 16 bytes, for strips shorter than 128 bytes. Strips shorter than 16 are first copied to
+// where bytes follow, so that a block at the last one stays inside.
 ghost use mathlib.Core.Path.{_≡_};
 ghost use Prim.Native.Nat.{_+_, _*_, _<_, _≤_};
 ghost use lib.Dec.{eqb};
-ghost use lib.ListN.{length, getD};
+ghost use lib.ListN.{length, getD, take};
 ghost use Rattle.gf2.specs.If.{if_then_else_};
 ghost use Rattle.gf2.specs.Sets.{has, _⊕_, over};
 ghost use Rattle.flat.specs.Lists.{every, tabulate, put};
 ghost use Rattle.flat.specs.Strips.{byteOf};
 
 // The block, XORed with the 16 bytes of the slice from a place on.
-fn added_16(block: [u8; 16], s: &[u8], at: usize) -> [u8; 16]
+pub(crate) fn added_16(block: [u8; 16], s: &[u8], at: usize) -> [u8; 16]
     requires { ⌜ at + 16 ≤ length (now s) ⌝ }
     ensures { λ r. ⌜ r ≡ tabulate 16 (λ t. getD block t 0 ⊕ getD (now (s .entry)) (at + t) 0) ⌝ }
 {
@@ -34,7 +35,7 @@ fn added_if_16(block: [u8; 16], s: &[u8], at: usize, set: u32, i: usize) -> [u8;
 
 // Of the XOR of the strips of the disks below n that are in the set: the 16 bytes from o on.
 pub fn sum_16(s: &[u8], l: usize, n: usize, set: u32, o: usize) -> [u8; 16]
-    requires { ⌜ (n ≤ 32) × (o + 16 ≤ l) × (n * l ≤ length (now s)) ⌝ }
+    requires { ⌜ (n ≤ 32) × (n * l + o + 16 ≤ length (now s) + l) ⌝ }
     ensures { λ r. ⌜ r ≡ tabulate 16 (λ t. over n set (byteOf l (now (s .entry)) (o + t))) ⌝ }
 {
     let mut block = [0u8; 16];
@@ -64,4 +65,37 @@ pub fn is_zero_16(block: [u8; 16]) -> bool
         any = any | block[t];
     }
     any == 0
+}
+
+// Puts the first bytes of the block into the slice.
+pub fn put_first_16(s: &mut [u8], at: usize, block: [u8; 16], count: usize)
+    requires { ⌜ (count ≤ 16) × (at + count ≤ length (now s)) ⌝ }
+    ensures { λ _. ⌜ now (s .exit) ≡ put (now (s .entry)) at (take count block) ⌝ }
+{
+    for t in 0..count {
+        s[at + t] = block[t];
+    }
+}
+
+// Whether the first bytes of the block are 0.
+pub fn starts_zero_16(block: [u8; 16], count: usize) -> bool
+    requires { ⌜ count ≤ 16 ⌝ }
+    ensures { λ r. ⌜ r ≡ every count (λ t. eqb (getD block t 0) 0) ⌝ }
+{
+    let mut any = 0u8;
+    for t in 0..count {
+        any = any | block[t];
+    }
+    any == 0
+}
+
+// Copies the first count bytes of the slice to the front of a local array.
+pub fn copy_first(local: &mut [u8; 512], s: &[u8], count: usize)
+    requires { ⌜ (length (now local) ≡ 512) × (count ≤ 512) × (count ≤ length (now s)) ⌝ }
+    ensures { λ _. ⌜ length (now (local .exit)) ≡ 512 ⌝ }
+    ensures { λ _. ⌜ now (local .exit) ≡ put (now (local .entry)) 0 (take count (now (s .entry))) ⌝ }
+{
+    for t in 0..count {
+        local[t] = s[t];
+    }
 }

@@ -1,13 +1,10 @@
-// The strips of a set as a list of places, so that only they are visited: for the many blocks of strips
-// that are only read.
+// The strips of a set as a list of places.
 ghost use mathlib.Core.Path.{_≡_};
-ghost use Prim.Native.Nat.{ℕ, _+_, _*_, _^_, _<_, _≤_};
+ghost use Prim.Native.Nat.{ℕ, _*_, _^_, _<_, _≤_};
 ghost use lib.Dec.{T};
-ghost use lib.ListN.{length, getD};
+ghost use lib.ListN.{getD};
 ghost use Rattle.gf2.specs.Sets.{has, over};
-ghost use Rattle.flat.specs.Lists.{tabulate};
-ghost use Rattle.strip_blocks.specs.Totals.{total, xorAt};
-use crate::added;
+ghost use Rattle.strip_blocks.specs.Totals.{total};
 
 // Where the strips start; the first count places mean something.
 pub struct Members {
@@ -31,18 +28,4 @@ pub fn members_of(set: u32, n: usize, l: usize) -> Members
         }
     }
     Members { at, count }
-}
-
-// Of the XOR of the strips at the first count places: the 128 bytes from o on.
-pub fn sum_at(s: &[u8], at: &[usize; 32], count: usize, o: usize) -> [u8; 128]
-    requires { ⌜ (length (now at) ≡ 32) × (count ≤ 32) ⌝ }
-    requires { ⌜ ((j : ℕ) → j < count → getD (now at) j 0 + o + 128 ≤ length (now s)) ⌝ }
-    ensures { λ r. ⌜ r ≡ tabulate 128 (λ t. xorAt count (now (at .entry)) (now (s .entry)) (o + t)) ⌝ }
-{
-    let mut block = [0u8; 128];
-    for j in 0..count {
-        let next = added(block, s, at[j] + o);
-        block = next;
-    }
-    block
 }

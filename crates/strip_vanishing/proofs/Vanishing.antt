@@ -1,22 +1,24 @@
--- Where the XOR of the strips of a set vanishes: block by block, byte by byte, row by row, and as streams.
+-- Where the XOR of the strips of a set vanishes: block by block, in one block, byte by byte, row by row, in a copy, and as streams.
 -- Assumes nothing.
-use mathlib.Core.Path.{_≡_, refl, sym, ap, _∙_, subst}
+use mathlib.Core.Path.{_≡_, refl, sym, ap, ap₂, _∙_, subst}
 use mathlib.Core.Bool.{Bool, true, false, _&&_}
 use mathlib.Core.Logic.{_⊎_, inl, inr}
-use mathlib.Core.List.{List}
+use mathlib.Core.List.{List, [], _∷_}
 use Prim.Native.Nat.{ℕ, _+_, _-_, _*_, _≤_, _<_}
+use native.Mathlib.Nat.{zero-add}
 use native.Mathlib.Numerals.{add-one}
 use native.Mathlib.Omega.{arith}
 use lib.Dec.{T, eqb}
 use lib.ListN.{length, getD, drop}
 use lib.Seq.{drop-cons, drop-length}
 use Rattle.gf2.specs.Sets.{over}
-use Rattle.gf2.proofs.Tests.{T-true, T-false, true-T, eqb-in, eqb-out, below-suc, below-or}
+use Rattle.gf2.proofs.Sums.{over-cong}
+use Rattle.gf2.proofs.Tests.{T-true, T-false, T-ext, true-T, eqb-in, eqb-out, below-suc, below-or}
 use Rattle.strip_blocks.specs.Totals.{total, xorAt}
 use Rattle.flat.specs.Lists.{every, tabulate}
 use Rattle.flat.specs.Strips.{byteOf}
 use Rattle.flat.specs.Repairs.{vanishes, allVanish}
-use Rattle.flat.proofs.Lists.{getD-tabulate, tabulate-cong}
+use Rattle.flat.proofs.Lists.{getD-tabulate}
 use Rattle.flat.proofs.Quantifiers.{every-in, every-out}
 
 -- ---- block by block
@@ -32,13 +34,6 @@ module _ (n l set : ℕ) (s : List ℕ) where
   -- the block of width w at q
   abbrev pub Block : ℕ → ℕ → List ℕ → Type 0
   Block w q block = block ≡ tabulate w (λ t. over n set (byteOf l s (q + t)))
-
-  -- one that is summed over a list of the strips' places
-  pub block-at : (at : List ℕ) (count q : ℕ) (block : List ℕ) → ((f : ℕ → ℕ) → total count (λ j. f (getD at j 0)) ≡ over n set (λ i. f (i * l)))
-      → block ≡ tabulate 128 (λ t. xorAt count at s (q + t)) → Block 128 q block
-  unfolding byteOf
-  block-at at count q block h e =
-      e ∙ tabulate-cong 128 (λ t. xorAt count at s (q + t)) (λ t. over n set (byteOf l s (q + t))) (λ t m. h (λ p. getD s (p + (q + t)) 0))
 
   block-byte : (w q : ℕ) (block : List ℕ) → Block w q block → (t : ℕ) → t < w → getD block t 0 ≡ over n set (byteOf l s (q + t))
   block-byte w q block e t h = ap (λ (b : List ℕ). getD b t 0) e ∙ getD-tabulate w (λ t. over n set (byteOf l s (q + t))) t h
@@ -75,6 +70,19 @@ module _ (n l set : ℕ) (s : List ℕ) where
       → b ≡ every w (λ t. eqb (getD block t 0) 0) → b ≡ vanishes n l s set
   vanished-last w o q block true r h k e z = vanished-all (q + w) (vanished-more w o q block r h e (sym z)) (omega arith)
   vanished-last w o q block false r h k e z = vanished-not w q block e (omega arith) (sym z)
+
+  -- a block that holds a whole strip, and more
+  pub vanished-in : (w : ℕ) (block : List ℕ) → l ≤ w → Block w 0 block → every l (λ t. eqb (getD block t 0) 0) ≡ vanishes n l s set
+  unfolding vanishes
+  vanished-in w block h e =
+      T-ext
+      (λ u. every-in l (λ t. eqb (over n set (byteOf l s t)) 0)
+      (λ t m. eqb-in (sym (same t m) ∙ eqb-out (getD block t 0) 0 (every-out l (λ t. eqb (getD block t 0) 0) u t m))))
+      (λ u. every-in l (λ t. eqb (getD block t 0) 0)
+      (λ t m. eqb-in (same t m ∙ eqb-out (over n set (byteOf l s t)) 0 (every-out l (λ t. eqb (over n set (byteOf l s t)) 0) u t m))))
+    where
+      same : (t : ℕ) → t < l → getD block t 0 ≡ over n set (byteOf l s t)
+      same t m = block-byte w 0 block e t (omega arith) ∙ ap (λ (x : ℕ). over n set (byteOf l s x)) (zero-add t)
 
   -- one byte
   pub vanished-byte : (t v : ℕ) → Vanished t → v ≡ over n set (byteOf l s t) → v ≡ 0 → Vanished (t + 1)
@@ -113,6 +121,26 @@ module _ (n l : ℕ) (s rows : List ℕ) where
   pub tested-all : (j : ℕ) → Tested j → length rows ≤ j → true ≡ allVanish n l s rows
   unfolding allVanish
   tested-all j r h = let e : j ≡ length rows = omega (arith, r .within) in sym (r .rest ∙ ap (λ (i : ℕ). allVanish n l s (drop i rows)) e ∙ rw drop-length)
+
+-- ---- of other bytes with the same strips
+
+module _ (n l : ℕ) (s s′ : List ℕ) (same : (t i : ℕ) → t < l → i < n → byteOf l s′ t i ≡ byteOf l s t i) where
+  vanishes-same : (set : ℕ) → vanishes n l s′ set ≡ vanishes n l s set
+  unfolding vanishes
+  vanishes-same set =
+      T-ext
+      (λ u. every-in l (λ t. eqb (over n set (byteOf l s t)) 0)
+      (λ t m. eqb-in (sym (sums t m) ∙ eqb-out (over n set (byteOf l s′ t)) 0 (every-out l (λ t. eqb (over n set (byteOf l s′ t)) 0) u t m))))
+      (λ u. every-in l (λ t. eqb (over n set (byteOf l s′ t)) 0)
+      (λ t m. eqb-in (sums t m ∙ eqb-out (over n set (byteOf l s t)) 0 (every-out l (λ t. eqb (over n set (byteOf l s t)) 0) u t m))))
+    where
+      sums : (t : ℕ) → t < l → over n set (byteOf l s′ t) ≡ over n set (byteOf l s t)
+      sums t m = over-cong n set (byteOf l s′ t) (byteOf l s t) (λ i k u. same t i m k)
+
+  pub all-vanish-same : (rows : List ℕ) → allVanish n l s′ rows ≡ allVanish n l s rows
+  unfolding allVanish
+  all-vanish-same [] = refl
+  all-vanish-same (r ∷ rs) = ap₂ _&&_ (vanishes-same r) (all-vanish-same rs)
 
 -- ---- as streams, from the places that `strip_blocks::members_of` answers
 

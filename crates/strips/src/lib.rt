@@ -1,8 +1,9 @@
 // Strips computed from other strips: those of some disks filled with the XOR of the strips of a set each.
 //
 // A stripe has the strips of all n disks, l bytes each. Strips go in blocks of 128 bytes, shorter ones in
-// blocks of 16, and those below 16 byte by byte; the last block lies over the end of the one before it. It
-// assumes at most 32 disks, and that no strip that is read is a target's.
+// blocks of 16; the last block lies over the end of the one before it. Strips of 4 to 15 bytes are first copied
+// to where bytes follow, and go in one block that reaches past them. It assumes at most 32 disks, and that no
+// strip that is read is a target's.
 ghost use mathlib.Core.Path.{_≡_};
 ghost use mathlib.Core.Logic.{_≢_};
 ghost use Prim.Native.Nat.{ℕ, _+_, _*_, _^_, _<_, _≤_};
@@ -71,6 +72,26 @@ fn fill_short(s: &mut [u8], l: usize, n: usize, set: u32, d: usize)
     }
 }
 
+// The same for sets of few disks.
+fn fill_sparse(s: &mut [u8], l: usize, n: usize, set: u32, d: usize)
+    requires { ⌜ (16 ≤ l) × (n ≤ 32) × (n * l ≤ length (now s)) × (d * l + l ≤ length (now s)) ⌝ }
+    requires { ⌜ ((i : ℕ) → i < n → T (has set i) → i ≢ d) ⌝ }
+    ensures { λ _. ⌜ now (s .exit) ≡ filled n l (λ _. set) (2 ^ d) (now (s .entry)) ⌝ }
+{
+    let at = d * l;
+    let mut o = 0;
+    while o + 16 <= l {
+        let block = strip_blocks::sum_few_16(s, l, n, set, o);
+        strip_blocks::put_16(s, at + o, block);
+        o += 16;
+    }
+    if o < l {
+        let last = l - 16;
+        let block = strip_blocks::sum_few_16(s, l, n, set, last);
+        strip_blocks::put_16(s, at + last, block);
+    }
+}
+
 // The same for strips of any length, byte by byte.
 fn fill_bytes(s: &mut [u8], l: usize, n: usize, set: u32, d: usize)
     requires { ⌜ (1 ≤ l) × (n ≤ 32) × (n * l ≤ length (now s)) × (d * l + l ≤ length (now s)) ⌝ }
@@ -93,10 +114,12 @@ fn fill_strip(s: &mut [u8], l: usize, n: usize, set: u32, d: usize)
         fill_few(s, l, n, set, d);
     } else if 128 <= l {
         fill_long(s, l, n, set, d);
-    } else if 16 <= l {
-        fill_short(s, l, n, set, d);
-    } else {
+    } else if l < 16 {
         fill_bytes(s, l, n, set, d);
+    } else if strip_blocks::is_sparse(set, n, l) {
+        fill_sparse(s, l, n, set, d);
+    } else {
+        fill_short(s, l, n, set, d);
     }
 }
 
@@ -115,6 +138,22 @@ fn fill_each(s: &mut [u8], l: usize, n: usize, targets: u32, sets: [u32; 32])
     }
 }
 
+// The same for strips shorter than 16 bytes, out of a copy after which bytes follow.
+fn fill_narrow(s: &mut [u8], l: usize, n: usize, targets: u32, sets: [u32; 32])
+    requires { ⌜ (1 ≤ l) × (l < 16) × (n ≤ 32) × (n * l ≡ length (now s)) ⌝ }
+    requires { ⌜ ((d i : ℕ) → T (has targets d) → i < n → T (has (getD sets d 0) i) → T (has targets i) → ⊥) ⌝ }
+    ensures { λ _. ⌜ now (s .exit) ≡ filled n l (λ d. getD sets d 0) targets (now (s .entry)) ⌝ }
+{
+    let mut local = [0u8; 512];
+    strip_blocks::copy_first(&mut local, s, n * l);
+    for d in 0..n {
+        if gf2::has(targets, d as u32) {
+            let block = strip_blocks::block_16(&local, l, n, sets[d], 0);
+            strip_blocks::put_first_16(s, d * l, block, l);
+        }
+    }
+}
+
 // The strip of each target d becomes the XOR of the strips of the disks in set d; none of those is a
 // target. Long strips that are read often go block by block.
 pub fn fill(s: &mut [u8], l: usize, n: usize, targets: u32, sets: [u32; 32])
@@ -122,6 +161,12 @@ pub fn fill(s: &mut [u8], l: usize, n: usize, targets: u32, sets: [u32; 32])
     requires { ⌜ ((d i : ℕ) → T (has targets d) → i < n → T (has (getD sets d 0) i) → T (has targets i) → ⊥) ⌝ }
     ensures { λ _. ⌜ now (s .exit) ≡ filled n l (λ d. getD sets d 0) targets (now (s .entry)) ⌝ }
 {
+    if l < 16 {
+        if 3 < l {
+            fill_narrow(s, l, n, targets, sets);
+            return;
+        }
+    }
     if l < 8192 {
         fill_each(s, l, n, targets, sets);
     } else if strip_dense::is_dense(n, targets, sets) {

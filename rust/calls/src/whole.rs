@@ -17,8 +17,8 @@ fn lost_of(choice: &mut Choice, card: Vec<u8>, lost: u32, strip_len: usize) -> I
     Input { card, strip_len, set: lost, sets, budget: 32, stripe, new_strip, file, out_len, ..Input::default() }
 }
 
-/// Stripes of this length: 10 + 5 disks with three lost, whole and with the last byte of each strip spoiled; of long strips also 16 + 16 disks,
-/// of dense and of sparse columns.
+/// Stripes of this length: 10 + 5 disks with three lost, whole and with the last byte of each strip spoiled; of short and of long strips also
+/// 16 + 16 disks, of dense and of sparse columns.
 pub fn of_length(choice: &mut Choice, strip_len: usize) -> Vec<Input> {
     let columns = |m: usize, column: fn(usize) -> u32| (0..m).map(|j| column(j) as u16).collect::<Vec<u16>>();
     let whole = lost_of(choice, card_of(10, 5, &columns(5, |j| 0x3ff ^ 1 << j)), 1 << 1 | 1 << 7 | 1 << 14, strip_len);
@@ -27,7 +27,7 @@ pub fn of_length(choice: &mut Choice, strip_len: usize) -> Vec<Input> {
         input.stripe[disk * strip_len + strip_len - 1] ^= 0x80;
         input.disk = disk;
     }
-    if strip_len > 600 {
+    if strip_len < 130 || strip_len > 600 {
         let dense = card_of(16, 16, &columns(16, |j| 0xffff ^ 1 << j));
         let sparse = card_of(16, 16, &columns(16, |j| 0x000f_000f << j >> 16));
         for (card, disk) in [(dense, 14), (sparse, 13)] {

@@ -7,7 +7,7 @@ use native.Mathlib.Omega.{arith}
 use lib.ListN.{length, getD}
 use Rattle.flat.proofs.Lists.{length-tabulate}
 use Rattle.flat.proofs.Positions.{strip-within}
-use Rattle.strip_blocks.proofs.Summed.{Summed, summed-none, summed-if, summed-all}
+use Rattle.strip_blocks.proofs.Summed.{Summed, summed-none, summed-more, summed-all}
 use Rattle.strip_products.proofs.Products.{products-none}
 use Rattle.strip_lanes.proofs.Lanes.{laneSum, lane-sum-more}
 use borrow.Author.Needs.{needs}
@@ -23,7 +23,7 @@ abbrev μ-loop : tie.MeasureT-loop
 loop-holds : tie.Need-loop-holds Inv-loop μ-loop
 loop-holds c =
     let a = c .before .before .args in
-    (search needs, summed-none 128 (laneSum (a .s .now) (a .l) (a .lanes .now) (a .a) (a .o)) (λ t. products-none _ _))
+    (search needs, summed-none 128 (laneSum (a .s .now) (a .l) (a .lanes .now) (a .a) (a .o)) 0 (λ t. products-none _ _))
 
 -- in a turn the strip of disk i is within the strips
 inside : (c : tie.In-loop Inv-loop μ-loop) → let a = c .before .before .before .before .args in c .before .loop .i * a .l + a .l ≤ a .k * a .l
@@ -58,8 +58,8 @@ loop-again c =
     let lp = c .before .before .before in
     let a = lp .before .before .before .args in (
       search needs,
-      summed-if 128 (laneSum (a .s .now) (a .l) (a .lanes .now) (a .a) (a .o)) (lp .loop .i) _ _
-          (λ t. getD (a .s .now) (lp .loop .i * a .l + a .o + t) 0 * getD (a .lanes .now) (a .a + lp .loop .i * 16 + t % 16) 0) true (lp .loop .inv .1) (c .added .ensures)
+      summed-more 128 (laneSum (a .s .now) (a .l) (a .lanes .now) (a .a) (a .o)) (lp .loop .i) (lp .loop .i + 1) _ _
+          (λ t. getD (a .s .now) (lp .loop .i * a .l + a .o + t) 0 * getD (a .lanes .now) (a .a + lp .loop .i * 16 + t % 16) 0) (lp .loop .inv .1) (c .added .ensures)
           (lane-sum-more (a .s .now) (a .l) (a .lanes .now) (a .a) (a .o) (lp .loop .i)),
     )
 

@@ -20,7 +20,7 @@ abbrev μ-loop : tie.MeasureT-loop
 
 loop-holds : tie.Need-loop-holds Inv-loop μ-loop
 unfolding over
-loop-holds c = (search needs, summed-none _ _ (λ t. refl))
+loop-holds c = (search needs, summed-none _ _ _ (λ t. refl))
 
 -- in a turn the strip of disk i is within the strips
 inside : (c : tie.In-loop Inv-loop μ-loop) → c .before .loop .i * c .before .before .before .args .l + c .before .before .before .args .l ≤ c .before .before .before .args .n * c .before .before .before .args .l
