@@ -33,7 +33,7 @@ pub record AgreesWith (card : List ℕ) (S L : ℕ) (stripe slice : List ℕ) (s
   pub verdict : verdictReport card S ≡ accepted (U ∷ [])
   pub lost : T (U ⊆ S)
   pub words : (d : ℕ) → d < disks (codeOf card) → T (has U d) ↔ Differing (codeOf card) S d
-  -- the lost set is fatal exactly where U isn't empty, and there the rebuilder refuses it as fatal
+  -- the lost set is fatal exactly where U isn't empty, and exactly there the rebuilder refuses it as fatal
   pub not-empty : T (fatal (codeOf card) S) ↔ (U ≢ 0)
   pub rebuilder : (rebuildReport card L S stripe ≡ refused 11 []) ↔ (U ≢ 0)
   -- a disk is in it exactly where some listed set inside the lost set holds it

@@ -1,6 +1,6 @@
 -- Tests over the numbers below a bound; the laws of the sets that are made by a test are passed on.
 -- Assumes nothing.
-use mathlib.Core.Path.{_≡_, sym, subst}
+use mathlib.Core.Path.{_≡_, refl, sym, ap₂, subst}
 use mathlib.Core.Bool.{Bool, true, false, _&&_, _||_}
 use mathlib.Core.Logic.{_⊎_, inl, inr}
 use Prim.Native.Nat.{ℕ, zero, suc, _<_}
@@ -55,6 +55,11 @@ every-out (suc n) p t x l = go (every n p) (every-out n p) t (below-suc x n l)
     go true rest u (inl m) = rest tt x m
     go true rest u (inr q) = subst (λ (y : ℕ). T (p y)) (sym q) u
     go false rest u c = absurd u
+
+pub every-cong : (n : ℕ) (p q : ℕ → Bool) → ((i : ℕ) → i < n → p i ≡ q i) → every n p ≡ every n q
+unfolding every
+every-cong zero p q h = refl
+every-cong (suc n) p q h = ap₂ _&&_ (every-cong n p q (λ i l. h i (omega arith))) (h n (omega arith))
 
 -- some number below n has p, or none
 pub find : (n : ℕ) (p : ℕ → Bool) → Some n (λ x. T (p x)) ⊎ All n (λ x. T (p x) → ⊥)

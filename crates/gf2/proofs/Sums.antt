@@ -131,6 +131,7 @@ over-only (suc n) S d f l h = go (below-suc d n l) (λ m. over-only n S d f m (�
         ∙ over-zero n S)
         ∙ zero-⊕ (f n) ∙ ap f (sym q))
 
+-- the set of one disk
 pub over-disk : (n d : ℕ) (f : ℕ → ℕ) → d < n → over n (2 ^ d) f ≡ f d
 over-disk n d f l = over-only n (2 ^ d) d f l (λ i m. has-if (2 ^ d) i (eqb i d) (bit-pow d i))
 

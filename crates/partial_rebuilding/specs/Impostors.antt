@@ -26,11 +26,12 @@ pub record VerdictTold : Type 0 where
   pub none-7 : verdictReport C1 7 ≡ accepted (0 ∷ [])
   pub outside-128 : verdictReport C1 128 ≡ refused 8 []
 
--- 11 where the set is fatal, restoring nothing, 0 where nothing can be restored: C7's stripe, with other bytes in the four lost data strips. Disk 0 gets
--- its byte 17 again, and disks 1, 2 and 3 keep theirs.
+-- C7's stripe, with other bytes in the four data strips
 abbrev pub lost-four : List ℕ
 lost-four = 99 ∷ 98 ∷ 97 ∷ 96 ∷ 119 ∷ 187 ∷ 221 ∷ []
 
+-- 11 where the set is fatal, restoring nothing, zeros in the strips that can't be restored: with the four data disks lost, disk 0 gets its byte 17
+-- again, and disks 1, 2 and 3 keep theirs.
 pub record BringsBackOne : Type 0 where
   pub rebuild : rebuildReport C1 1 15 lost-four ≡ refused 11 []
   pub answer : partialReport C1 1 15 lost-four ≡ accepted (14 ∷ [])

@@ -3,7 +3,7 @@
 use mathlib.Core.Path.{_≡_, sym, ap, _∙_}
 use mathlib.Core.List.{List}
 use Prim.Native.Nat.{ℕ, _+_, _*_, _≤_, _<_}
-use native.Mathlib.Nat.{zero-add}
+use native.Mathlib.Nat.{zero-add, mul-le-mul-right}
 use native.Mathlib.Omega.{arith}
 use lib.Arith.{digits-lt}
 use lib.ListN.{length, getD, take}
@@ -11,6 +11,10 @@ use lib.Seq.{getD-take, length-take-le}
 use Rattle.flat.specs.Lists.{put}
 use Rattle.flat.specs.Strips.{byteOf}
 use Rattle.flat.proofs.Lists.{put-new}
+
+-- there is room for so many short ones, and for a block after them
+pub aside-room : (n l : ℕ) → n ≤ 32 → l < 16 → n * l + 16 ≤ 512
+aside-room n l few short = omega (arith, mul-le-mul-right l few)
 
 pub aside-byte : (n l : ℕ) (s local₀ local : List ℕ) → n * l ≤ length local₀ → n * l ≤ length s → local ≡ put local₀ 0 (take (n * l) s)
     → (t i : ℕ) → t < l → i < n → byteOf l local t i ≡ byteOf l s t i

@@ -9,7 +9,7 @@ use native.Mathlib.Omega.{arith}
 use lib.Dec.{T, eqb}
 use lib.ListN.{getD, replicate}
 use lib.Pow.{pow-pos}
-use Rattle.gf2.specs.Sets.{bit, has, _⊕_, _∖_, over}
+use Rattle.gf2.specs.Sets.{has, _⊕_, _∖_, over}
 use Rattle.gf2.specs.Within.{lowest}
 use Rattle.gf2.proofs.Bits.{bit-mod}
 use Rattle.gf2.proofs.Subsets.{less-add, lowest-has, lowest-lt}
@@ -41,19 +41,19 @@ module _ (n set : ℕ) (f : ℕ → ℕ) where
   abbrev pub gone : ℕ → ℕ
   gone left = over n set f ⊕ over n left f
 
-  pub gone-none : gone (set % 2 ^ n) ≡ 0
+  gone-none : gone (set % 2 ^ n) ≡ 0
   unfolding has
   gone-none =
       ap (λ (x : ℕ). over n set f ⊕ x) (over-set n (set % 2 ^ n) set f (λ i h. ap (λ (b : ℕ). eqb b 1) (bit-mod n set i h))) ∙ ⊕-self (over n set f)
 
-  pub gone-more : (left i : ℕ) → i < n → T (has left i) → gone left ⊕ f i ≡ gone (left ∖ 2 ^ i)
+  gone-more : (left i : ℕ) → i < n → T (has left i) → gone left ⊕ f i ≡ gone (left ∖ 2 ^ i)
   gone-more left i h t =
       ⊕-assoc (over n set f) (over n left f) (f i)
       ∙ ap (λ (x : ℕ). over n set f ⊕ x)
       (ap (λ (x : ℕ). x ⊕ f i) (over-without n left i f h t) ∙ ⊕-assoc (over n (left ∖ 2 ^ i) f) (f i) (f i)
       ∙ ap (λ (x : ℕ). over n (left ∖ 2 ^ i) f ⊕ x) (⊕-self (f i)) ∙ ⊕-zero (over n (left ∖ 2 ^ i) f))
 
-  pub gone-all : gone 0 ≡ over n set f
+  gone-all : gone 0 ≡ over n set f
   gone-all = ap (λ (x : ℕ). over n set f ⊕ x) (over-none n f) ∙ ⊕-zero (over n set f)
 
 -- byte t of a block from o on

@@ -1,4 +1,4 @@
-// One byte of the XOR of strips, for strips shorter than 16 bytes.
+// One byte of the XOR of strips, for strips of up to 3 bytes.
 ghost use mathlib.Core.Path.{_≡_};
 ghost use Prim.Native.Nat.{_*_, _+_, _<_, _≤_};
 ghost use lib.ListN.{length, getD};

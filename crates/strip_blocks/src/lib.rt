@@ -1,7 +1,9 @@
 // The XOR of the strips of a set of disks, block by block: 128 bytes, which stay in the machine's
-// registers while the strips go by; 16 bytes for short strips; and one byte.
+// registers while the strips go by; 16 bytes for short strips; and one byte. It tests for each disk whether it is
+// in the set; the forms of walking.rt go from one disk of the set to the next.
 //
-// A stripe is here any slice with the strips of n disks in it, l bytes each.
+// A stripe is here any slice with the strips of n disks in it, l bytes each. Blocks of 16, and all of walking.rt,
+// may reach past their strip's end, not past the slice's.
 ghost use mathlib.Core.Path.{_≡_};
 ghost use Prim.Native.Nat.{_+_, _-_, _*_, _<_, _≤_, min};
 ghost use lib.Dec.{eqb};
@@ -12,15 +14,11 @@ ghost use Rattle.flat.specs.Lists.{every, tabulate, put};
 ghost use Rattle.flat.specs.Strips.{byteOf};
 
 mod bytes;
-mod few;
 mod narrow;
 mod places;
+mod walking;
 
 pub use bytes::sum_1;
-pub use few::block_16;
-pub use few::is_sparse;
-pub use few::sum_few;
-pub use few::sum_few_16;
 pub use narrow::copy_first;
 pub use narrow::is_zero_16;
 pub use narrow::put_16;
@@ -29,6 +27,10 @@ pub use narrow::starts_zero_16;
 pub use narrow::sum_16;
 pub use places::Members;
 pub use places::members_of;
+pub use walking::block_16;
+pub use walking::is_sparse;
+pub use walking::sum_walked;
+pub use walking::sum_walked_16;
 
 // The block, XORed with the 128 bytes of the slice from a place on.
 pub(crate) fn added(block: [u8; 128], s: &[u8], at: usize) -> [u8; 128]
@@ -42,8 +44,7 @@ pub(crate) fn added(block: [u8; 128], s: &[u8], at: usize) -> [u8; 128]
     out
 }
 
-// The same where disk i is in the set, else the block as it is. Here, and in the two short forms of this,
-// is decided whether a strip goes in.
+// The same where disk i is in the set, else the block as it is.
 fn added_if(block: [u8; 128], s: &[u8], at: usize, set: u32, i: usize) -> [u8; 128]
     requires { ⌜ (i < 32) × (at + 128 ≤ length (now s)) ⌝ }
     ensures { λ r. ⌜ r ≡ (if has set i then tabulate 128 (λ t. getD block t 0 ⊕ getD (now (s .entry)) (at + t) 0) else block) ⌝ }

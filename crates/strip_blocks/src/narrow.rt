@@ -1,4 +1,4 @@
-// The same in blocks of 16 bytes, for strips shorter than 128 bytes. Strips shorter than 16 are first copied to
+// The same in blocks of 16 bytes, for strips shorter than 128 bytes. Strips of 4 to 15 bytes are first copied to
 // where bytes follow, so that a block at the last one stays inside.
 ghost use mathlib.Core.Path.{_≡_};
 ghost use Prim.Native.Nat.{_+_, _*_, _<_, _≤_};
@@ -89,7 +89,8 @@ pub fn starts_zero_16(block: [u8; 16], count: usize) -> bool
     any == 0
 }
 
-// Copies the first count bytes of the slice to the front of a local array.
+// Copies the first count bytes of the slice to the front of a local array, which has room for 32 strips of 15 bytes
+// and a block of 16.
 pub fn copy_first(local: &mut [u8; 512], s: &[u8], count: usize)
     requires { ⌜ (length (now local) ≡ 512) × (count ≤ 512) × (count ≤ length (now s)) ⌝ }
     ensures { λ _. ⌜ length (now (local .exit)) ≡ 512 ⌝ }

@@ -1,4 +1,4 @@
-// The strips of a set as a list of places.
+// The strips of a set as a list of places, for strips that are read from end to end.
 ghost use mathlib.Core.Path.{_≡_};
 ghost use Prim.Native.Nat.{ℕ, _*_, _^_, _<_, _≤_};
 ghost use lib.Dec.{T};

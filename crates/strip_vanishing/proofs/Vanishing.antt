@@ -13,13 +13,13 @@ use lib.ListN.{length, getD, drop}
 use lib.Seq.{drop-cons, drop-length}
 use Rattle.gf2.specs.Sets.{over}
 use Rattle.gf2.proofs.Sums.{over-cong}
-use Rattle.gf2.proofs.Tests.{T-true, T-false, T-ext, true-T, eqb-in, eqb-out, below-suc, below-or}
+use Rattle.gf2.proofs.Tests.{T-true, T-false, true-T, eqb-in, eqb-out, below-suc, below-or}
 use Rattle.strip_blocks.specs.Totals.{total, xorAt}
 use Rattle.flat.specs.Lists.{every, tabulate}
 use Rattle.flat.specs.Strips.{byteOf}
 use Rattle.flat.specs.Repairs.{vanishes, allVanish}
 use Rattle.flat.proofs.Lists.{getD-tabulate}
-use Rattle.flat.proofs.Quantifiers.{every-in, every-out}
+use Rattle.flat.proofs.Quantifiers.{every-in, every-out, every-cong}
 
 -- ---- block by block
 
@@ -75,14 +75,8 @@ module _ (n l set : ℕ) (s : List ℕ) where
   pub vanished-in : (w : ℕ) (block : List ℕ) → l ≤ w → Block w 0 block → every l (λ t. eqb (getD block t 0) 0) ≡ vanishes n l s set
   unfolding vanishes
   vanished-in w block h e =
-      T-ext
-      (λ u. every-in l (λ t. eqb (over n set (byteOf l s t)) 0)
-      (λ t m. eqb-in (sym (same t m) ∙ eqb-out (getD block t 0) 0 (every-out l (λ t. eqb (getD block t 0) 0) u t m))))
-      (λ u. every-in l (λ t. eqb (getD block t 0) 0)
-      (λ t m. eqb-in (same t m ∙ eqb-out (over n set (byteOf l s t)) 0 (every-out l (λ t. eqb (over n set (byteOf l s t)) 0) u t m))))
-    where
-      same : (t : ℕ) → t < l → getD block t 0 ≡ over n set (byteOf l s t)
-      same t m = block-byte w 0 block e t (omega arith) ∙ ap (λ (x : ℕ). over n set (byteOf l s x)) (zero-add t)
+      every-cong l (λ t. eqb (getD block t 0) 0) (λ t. eqb (over n set (byteOf l s t)) 0)
+      (λ t m. ap (λ (v : ℕ). eqb v 0) (block-byte w 0 block e t (omega arith) ∙ ap (λ (x : ℕ). over n set (byteOf l s x)) (zero-add t)))
 
   -- one byte
   pub vanished-byte : (t v : ℕ) → Vanished t → v ≡ over n set (byteOf l s t) → v ≡ 0 → Vanished (t + 1)
@@ -128,14 +122,8 @@ module _ (n l : ℕ) (s s′ : List ℕ) (same : (t i : ℕ) → t < l → i < n
   vanishes-same : (set : ℕ) → vanishes n l s′ set ≡ vanishes n l s set
   unfolding vanishes
   vanishes-same set =
-      T-ext
-      (λ u. every-in l (λ t. eqb (over n set (byteOf l s t)) 0)
-      (λ t m. eqb-in (sym (sums t m) ∙ eqb-out (over n set (byteOf l s′ t)) 0 (every-out l (λ t. eqb (over n set (byteOf l s′ t)) 0) u t m))))
-      (λ u. every-in l (λ t. eqb (over n set (byteOf l s′ t)) 0)
-      (λ t m. eqb-in (sums t m ∙ eqb-out (over n set (byteOf l s t)) 0 (every-out l (λ t. eqb (over n set (byteOf l s t)) 0) u t m))))
-    where
-      sums : (t : ℕ) → t < l → over n set (byteOf l s′ t) ≡ over n set (byteOf l s t)
-      sums t m = over-cong n set (byteOf l s′ t) (byteOf l s t) (λ i k u. same t i m k)
+      every-cong l (λ t. eqb (over n set (byteOf l s′ t)) 0) (λ t. eqb (over n set (byteOf l s t)) 0)
+      (λ t m. ap (λ (v : ℕ). eqb v 0) (over-cong n set (byteOf l s′ t) (byteOf l s t) (λ i k u. same t i m k)))
 
   pub all-vanish-same : (rows : List ℕ) → allVanish n l s′ rows ≡ allVanish n l s rows
   unfolding allVanish

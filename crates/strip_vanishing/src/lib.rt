@@ -2,8 +2,8 @@
 //
 // A stripe has the strips of all disks, l bytes each. Strips go in blocks of 128 bytes, shorter ones in
 // blocks of 16; the last block lies over the end of the one before it. Strips of 4 to 15 bytes are first copied
-// to where bytes follow, and go in one block that reaches past them. It assumes strips of at most 65,536 bytes,
-// at most 32 disks, whose strips the slice has, and at most 16 sets.
+// to where bytes follow, and go in one block that reaches past them; shorter ones go byte by byte. It assumes
+// strips of at most 65,536 bytes, at most 32 disks, whose strips the slice has, and at most 16 sets.
 ghost use mathlib.Core.Path.{_≡_};
 ghost use Prim.Native.Nat.{_+_, _*_, _<_, _≤_};
 ghost use lib.ListN.{length, take};
@@ -18,13 +18,13 @@ fn vanishes_long(s: &[u8], l: usize, n: usize, set: u32) -> bool
 {
     let mut o = 0;
     while o + 128 <= l {
-        if !strip_blocks::is_zero(strip_blocks::sum_few(s, l, n, set, o)) {
+        if !strip_blocks::is_zero(strip_blocks::sum_walked(s, l, n, set, o)) {
             return false;
         }
         o += 128;
     }
     if o < l {
-        return strip_blocks::is_zero(strip_blocks::sum_few(s, l, n, set, l - 128));
+        return strip_blocks::is_zero(strip_blocks::sum_walked(s, l, n, set, l - 128));
     }
     true
 }
@@ -64,27 +64,27 @@ fn vanishes_short(s: &[u8], l: usize, n: usize, set: u32) -> bool
     true
 }
 
-// The same for sets of few disks.
+// The same for a set of few disks; written again, since a choice for each block is slower.
 fn vanishes_sparse(s: &[u8], l: usize, n: usize, set: u32) -> bool
     requires { ⌜ (16 ≤ l) × (l ≤ 65536) × (n ≤ 32) × (n * l ≤ length (now s)) ⌝ }
     ensures { λ r. ⌜ r ≡ vanishes n l (now (s .entry)) set ⌝ }
 {
     let mut o = 0;
     while o + 16 <= l {
-        if !strip_blocks::is_zero_16(strip_blocks::sum_few_16(s, l, n, set, o)) {
+        if !strip_blocks::is_zero_16(strip_blocks::sum_walked_16(s, l, n, set, o)) {
             return false;
         }
         o += 16;
     }
     if o < l {
-        return strip_blocks::is_zero_16(strip_blocks::sum_few_16(s, l, n, set, l - 16));
+        return strip_blocks::is_zero_16(strip_blocks::sum_walked_16(s, l, n, set, l - 16));
     }
     true
 }
 
-// The same for strips of at most 16 bytes, after the last of which bytes follow.
+// The same for strips shorter than 16 bytes, after the last of which bytes follow.
 fn vanishes_narrow(s: &[u8], l: usize, n: usize, set: u32) -> bool
-    requires { ⌜ (l ≤ 16) × (n ≤ 32) × (n * l + 16 ≤ length (now s)) ⌝ }
+    requires { ⌜ (l < 16) × (n ≤ 32) × (n * l + 16 ≤ length (now s)) ⌝ }
     ensures { λ r. ⌜ r ≡ vanishes n l (now (s .entry)) set ⌝ }
 {
     strip_blocks::starts_zero_16(strip_blocks::block_16(s, l, n, set, 0), l)
@@ -103,7 +103,7 @@ fn vanishes_bytes(s: &[u8], l: usize, n: usize, set: u32) -> bool
     true
 }
 
-// The same in the way that suits the strips' length.
+// The same in the way that suits the strips' length and the set.
 fn strip_vanishes(s: &[u8], l: usize, n: usize, set: u32) -> bool
     requires { ⌜ (l ≤ 65536) × (n ≤ 32) × (n * l ≤ length (now s)) ⌝ }
     ensures { λ r. ⌜ r ≡ vanishes n l (now (s .entry)) set ⌝ }
@@ -141,7 +141,7 @@ fn all_narrow_vanish(s: &[u8], l: usize, n: usize, rows: Basis) -> bool
     true
 }
 
-// Whether it vanishes for every row of a basis.
+// Whether it vanishes for every row of a basis. Up to 3 bytes a strip is not worth a copy.
 pub fn all_vanish(s: &[u8], l: usize, n: usize, rows: Basis) -> bool
     requires { ⌜ (l ≤ 65536) × (n ≤ 32) × (n * l ≤ length (now s)) × (rows .count ≤ 16) ⌝ }
     ensures { λ r. ⌜ r ≡ allVanish n l (now (s .entry)) (take (rows .count) (rows .rows)) ⌝ }

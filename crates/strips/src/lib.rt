@@ -2,8 +2,8 @@
 //
 // A stripe has the strips of all n disks, l bytes each. Strips go in blocks of 128 bytes, shorter ones in
 // blocks of 16; the last block lies over the end of the one before it. Strips of 4 to 15 bytes are first copied
-// to where bytes follow, and go in one block that reaches past them. It assumes at most 32 disks, and that no
-// strip that is read is a target's.
+// to where bytes follow, and go in one block that reaches past them; shorter ones go byte by byte. It assumes at
+// most 32 disks, and that no strip that is read is a target's.
 ghost use mathlib.Core.Path.{_≡_};
 ghost use mathlib.Core.Logic.{_≢_};
 ghost use Prim.Native.Nat.{ℕ, _+_, _*_, _^_, _<_, _≤_};
@@ -72,7 +72,7 @@ fn fill_short(s: &mut [u8], l: usize, n: usize, set: u32, d: usize)
     }
 }
 
-// The same for sets of few disks.
+// The same for a set of few disks; written again, since a choice for each block is slower.
 fn fill_sparse(s: &mut [u8], l: usize, n: usize, set: u32, d: usize)
     requires { ⌜ (16 ≤ l) × (n ≤ 32) × (n * l ≤ length (now s)) × (d * l + l ≤ length (now s)) ⌝ }
     requires { ⌜ ((i : ℕ) → i < n → T (has set i) → i ≢ d) ⌝ }
@@ -81,13 +81,13 @@ fn fill_sparse(s: &mut [u8], l: usize, n: usize, set: u32, d: usize)
     let at = d * l;
     let mut o = 0;
     while o + 16 <= l {
-        let block = strip_blocks::sum_few_16(s, l, n, set, o);
+        let block = strip_blocks::sum_walked_16(s, l, n, set, o);
         strip_blocks::put_16(s, at + o, block);
         o += 16;
     }
     if o < l {
         let last = l - 16;
-        let block = strip_blocks::sum_few_16(s, l, n, set, last);
+        let block = strip_blocks::sum_walked_16(s, l, n, set, last);
         strip_blocks::put_16(s, at + last, block);
     }
 }
@@ -104,7 +104,7 @@ fn fill_bytes(s: &mut [u8], l: usize, n: usize, set: u32, d: usize)
     }
 }
 
-// The same in the way that suits the strips' length.
+// The same in the way that suits the strips' length and the set.
 fn fill_strip(s: &mut [u8], l: usize, n: usize, set: u32, d: usize)
     requires { ⌜ (1 ≤ l) × (n ≤ 32) × (n * l ≤ length (now s)) × (d * l + l ≤ length (now s)) ⌝ }
     requires { ⌜ ((i : ℕ) → i < n → T (has set i) → i ≢ d) ⌝ }
@@ -155,7 +155,7 @@ fn fill_narrow(s: &mut [u8], l: usize, n: usize, targets: u32, sets: [u32; 32])
 }
 
 // The strip of each target d becomes the XOR of the strips of the disks in set d; none of those is a
-// target. Long strips that are read often go block by block.
+// target. Long strips that are read often go block by block; up to 3 bytes a strip is not worth a copy.
 pub fn fill(s: &mut [u8], l: usize, n: usize, targets: u32, sets: [u32; 32])
     requires { ⌜ (1 ≤ l) × (n ≤ 32) × (n * l ≡ length (now s)) ⌝ }
     requires { ⌜ ((d i : ℕ) → T (has targets d) → i < n → T (has (getD sets d 0) i) → T (has targets i) → ⊥) ⌝ }

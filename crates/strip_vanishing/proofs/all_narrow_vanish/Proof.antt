@@ -2,13 +2,12 @@
 -- Assumes nothing.
 use mathlib.Core.Path.{_≡_, sym, ap, _∙_}
 use Prim.Native.Nat.{_+_, _-_, _*_, _≤_}
-use native.Mathlib.Nat.{mul-le-mul-right}
 use native.Mathlib.Omega.{arith}
 use borrow.Author.Tests.{not-true, not-false}
 use lib.ListN.{length, take}
 use lib.Seq.{getD-take, length-take-le}
 use Rattle.flat.specs.Repairs.{vanishes}
-use Rattle.strip_blocks.proofs.Aside.{aside-byte}
+use Rattle.strip_blocks.proofs.Aside.{aside-room, aside-byte}
 use Rattle.strip_vanishing.proofs.Vanishing.{Tested, tested-none, tested-more, tested-not, tested-all, all-vanish-same}
 use borrow.Author.Needs.{needs}
 use Rattle.strip_vanishing.proofs.all_narrow_vanish.Statement.{statement}
@@ -22,7 +21,7 @@ abbrev μ-loop : tie.MeasureT-loop
 
 -- there is room for the copy, and 16 bytes after it
 room : (c : tie.Start Inv-loop μ-loop) → c .args .n * c .args .l + 16 ≤ 512
-room c = omega (arith, mul-le-mul-right (c .args .l) (c .pre .1), c .pre)
+room c = aside-room (c .args .n) (c .args .l) (c .pre .1) (c .pre .0)
 
 mul-copy-first : tie.Need-mul-copy-first Inv-loop μ-loop
 mul-copy-first c = search needs

@@ -21,14 +21,14 @@ loop-holds c = (search needs, vanished-none _ _ _ _)
 add-loop : tie.Need-add-loop Inv-loop μ-loop
 add-loop c = search needs
 
-sum-few-requires : tie.Need-sum-few-requires Inv-loop μ-loop
-sum-few-requires c κs = search needs
+sum-walked-requires : tie.Need-sum-walked-requires Inv-loop μ-loop
+sum-walked-requires c κs = search needs
 
 is-zero-requires : tie.Need-is-zero-requires Inv-loop μ-loop
 is-zero-requires c κs = search needs
 
 returns : tie.Need-returns Inv-loop μ-loop
-returns c = vanished-not _ _ _ _ _ _ _ (c .before .before .sum-few .ensures) (search needs) (sym (c .before .is-zero .ensures) ∙ not-true _ (c .if1 .taken))
+returns c = vanished-not _ _ _ _ _ _ _ (c .before .before .sum-walked .ensures) (search needs) (sym (c .before .is-zero .ensures) ∙ not-true _ (c .if1 .taken))
 
 add-o : tie.Need-add-o Inv-loop μ-loop
 add-o c = search needs
@@ -37,13 +37,13 @@ loop-less : tie.Need-loop-less Inv-loop μ-loop
 loop-less c = search needs
 
 loop-again : tie.Need-loop-again Inv-loop μ-loop
-loop-again c = (search needs, vanished-more _ _ _ _ _ _ _ _ (c .before .before .before .before .loop .inv .1) (omega arith) (c .before .before .sum-few .ensures) (sym (c .before .is-zero .ensures) ∙ not-false _ (c .if1 .left)))
+loop-again c = (search needs, vanished-more _ _ _ _ _ _ _ _ (c .before .before .before .before .loop .inv .1) (omega arith) (c .before .before .sum-walked .ensures) (sym (c .before .is-zero .ensures) ∙ not-false _ (c .if1 .left)))
 
-sub-sum-few : tie.Need-sub-sum-few Inv-loop μ-loop
-sub-sum-few c = search needs
+sub-sum-walked : tie.Need-sub-sum-walked Inv-loop μ-loop
+sub-sum-walked c = search needs
 
-sum-few-requires-2 : tie.Need-sum-few-requires-2 Inv-loop μ-loop
-sum-few-requires-2 c κs = search needs
+sum-walked-requires-2 : tie.Need-sum-walked-requires-2 Inv-loop μ-loop
+sum-walked-requires-2 c κs = search needs
 
 is-zero-requires-2 : tie.Need-is-zero-requires-2 Inv-loop μ-loop
 is-zero-requires-2 c κs = search needs
@@ -51,7 +51,7 @@ is-zero-requires-2 c κs = search needs
 returns-2 : tie.Need-returns-2 Inv-loop μ-loop
 returns-2 c =
     let lp = c .before .before .before .before .loop in
-    vanished-last _ _ _ _ _ (lp .o) _ _ _ (lp .inv .1) (search needs) (search needs) (c .before .sum-few2 .ensures) (c .is-zero2 .ensures)
+    vanished-last _ _ _ _ _ (lp .o) _ _ _ (lp .inv .1) (search needs) (search needs) (c .before .sum-walked2 .ensures) (c .is-zero2 .ensures)
 
 returns-3 : tie.Need-returns-3 Inv-loop μ-loop
 returns-3 c = vanished-all _ _ _ _ _ (c .before .before .loop .inv .1) (search needs)
@@ -64,14 +64,14 @@ vanishes-long-spec =
     μ-loop
     loop-holds
     add-loop
-    sum-few-requires
+    sum-walked-requires
     is-zero-requires
     returns
     add-o
     loop-less
     loop-again
-    sub-sum-few
-    sum-few-requires-2
+    sub-sum-walked
+    sum-walked-requires-2
     is-zero-requires-2
     returns-2
     returns-3)

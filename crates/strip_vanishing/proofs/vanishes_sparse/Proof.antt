@@ -21,14 +21,14 @@ loop-holds c = (search needs, vanished-none _ _ _ _)
 add-loop : tie.Need-add-loop Inv-loop μ-loop
 add-loop c = search needs
 
-sum-few-16-requires : tie.Need-sum-few-16-requires Inv-loop μ-loop
-sum-few-16-requires c κs = search needs
+sum-walked-16-requires : tie.Need-sum-walked-16-requires Inv-loop μ-loop
+sum-walked-16-requires c κs = search needs
 
 is-zero-16-requires : tie.Need-is-zero-16-requires Inv-loop μ-loop
 is-zero-16-requires c κs = search needs
 
 returns : tie.Need-returns Inv-loop μ-loop
-returns c = vanished-not _ _ _ _ _ _ _ (c .before .before .sum-few-16 .ensures) (search needs) (sym (c .before .is-zero-16 .ensures) ∙ not-true _ (c .if1 .taken))
+returns c = vanished-not _ _ _ _ _ _ _ (c .before .before .sum-walked-16 .ensures) (search needs) (sym (c .before .is-zero-16 .ensures) ∙ not-true _ (c .if1 .taken))
 
 add-o : tie.Need-add-o Inv-loop μ-loop
 add-o c = search needs
@@ -37,13 +37,13 @@ loop-less : tie.Need-loop-less Inv-loop μ-loop
 loop-less c = search needs
 
 loop-again : tie.Need-loop-again Inv-loop μ-loop
-loop-again c = (search needs, vanished-more _ _ _ _ _ _ _ _ (c .before .before .before .before .loop .inv .1) (omega arith) (c .before .before .sum-few-16 .ensures) (sym (c .before .is-zero-16 .ensures) ∙ not-false _ (c .if1 .left)))
+loop-again c = (search needs, vanished-more _ _ _ _ _ _ _ _ (c .before .before .before .before .loop .inv .1) (omega arith) (c .before .before .sum-walked-16 .ensures) (sym (c .before .is-zero-16 .ensures) ∙ not-false _ (c .if1 .left)))
 
-sub-sum-few-16 : tie.Need-sub-sum-few-16 Inv-loop μ-loop
-sub-sum-few-16 c = search needs
+sub-sum-walked-16 : tie.Need-sub-sum-walked-16 Inv-loop μ-loop
+sub-sum-walked-16 c = search needs
 
-sum-few-16-requires-2 : tie.Need-sum-few-16-requires-2 Inv-loop μ-loop
-sum-few-16-requires-2 c κs = search needs
+sum-walked-16-requires-2 : tie.Need-sum-walked-16-requires-2 Inv-loop μ-loop
+sum-walked-16-requires-2 c κs = search needs
 
 is-zero-16-requires-2 : tie.Need-is-zero-16-requires-2 Inv-loop μ-loop
 is-zero-16-requires-2 c κs = search needs
@@ -51,7 +51,7 @@ is-zero-16-requires-2 c κs = search needs
 returns-2 : tie.Need-returns-2 Inv-loop μ-loop
 returns-2 c =
     let lp = c .before .before .before .before .loop in
-    vanished-last _ _ _ _ _ (lp .o) _ _ _ (lp .inv .1) (search needs) (search needs) (c .before .sum-few-162 .ensures) (c .is-zero-162 .ensures)
+    vanished-last _ _ _ _ _ (lp .o) _ _ _ (lp .inv .1) (search needs) (search needs) (c .before .sum-walked-162 .ensures) (c .is-zero-162 .ensures)
 
 returns-3 : tie.Need-returns-3 Inv-loop μ-loop
 returns-3 c = vanished-all _ _ _ _ _ (c .before .before .loop .inv .1) (search needs)
@@ -64,14 +64,14 @@ vanishes-sparse-spec =
     μ-loop
     loop-holds
     add-loop
-    sum-few-16-requires
+    sum-walked-16-requires
     is-zero-16-requires
     returns
     add-o
     loop-less
     loop-again
-    sub-sum-few-16
-    sum-few-16-requires-2
+    sub-sum-walked-16
+    sum-walked-16-requires-2
     is-zero-16-requires-2
     returns-2
     returns-3)

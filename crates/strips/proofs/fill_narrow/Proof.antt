@@ -3,12 +3,11 @@
 use mathlib.Core.Path.{sym, _∙_, subst}
 use mathlib.Core.Logic.{⊎-elim}
 use Prim.Native.Nat.{ℕ, _+_, _-_, _*_, _≤_}
-use native.Mathlib.Nat.{mul-le-mul-right}
 use native.Mathlib.Omega.{arith}
 use lib.ListN.{getD}
 use Rattle.gf2.proofs.Tests.{true-T, false-T}
 use Rattle.flat.proofs.Positions.{strip-within}
-use Rattle.strip_blocks.proofs.Aside.{aside-byte}
+use Rattle.strip_blocks.proofs.Aside.{aside-room, aside-byte}
 use Rattle.strips.proofs.Filling.{FilledTo, filled-none, filled-skip, filled-aside, filled-all}
 use borrow.Author.Needs.{needs}
 use Rattle.strips.proofs.fill_narrow.Statement.{statement}
@@ -22,7 +21,7 @@ abbrev μ-loop : tie.MeasureT-loop
 
 -- there is room for the copy, and 16 bytes after it
 room : (c : tie.Start Inv-loop μ-loop) → c .args .n * c .args .l + 16 ≤ 512
-room c = omega (arith, mul-le-mul-right (c .args .l) (c .pre .0 .2), c .pre .0)
+room c = aside-room (c .args .n) (c .args .l) (c .pre .0 .2) (c .pre .0 .1)
 
 mul-copy-first : tie.Need-mul-copy-first Inv-loop μ-loop
 mul-copy-first c = search needs

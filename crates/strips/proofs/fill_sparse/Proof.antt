@@ -22,8 +22,8 @@ loop-holds c = (search needs, run-none _ _ _)
 add-loop : tie.Need-add-loop Inv-loop μ-loop
 add-loop c = search needs
 
-sum-few-16-requires : tie.Need-sum-few-16-requires Inv-loop μ-loop
-sum-few-16-requires c κs = search needs
+sum-walked-16-requires : tie.Need-sum-walked-16-requires Inv-loop μ-loop
+sum-walked-16-requires c κs = search needs
 
 add-put-16 : tie.Need-add-put-16 Inv-loop μ-loop
 add-put-16 c = search needs
@@ -43,14 +43,14 @@ loop-again c =
     let lp = b .before .before .before in (
       search needs,
       strip-more _ _ _ _ _ (lp .before .before .pre .1) 16 _ _ _ _ _ (lp .loop .inv .1) (search needs) (search needs) (search needs) (search needs)
-          (b .sum-few-16 .ensures) (c .before .before .put-16 .ensures),
+          (b .sum-walked-16 .ensures) (c .before .before .put-16 .ensures),
     )
 
 sub-last : tie.Need-sub-last Inv-loop μ-loop
 sub-last c = search needs
 
-sum-few-16-requires-2 : tie.Need-sum-few-16-requires-2 Inv-loop μ-loop
-sum-few-16-requires-2 c κs = search needs
+sum-walked-16-requires-2 : tie.Need-sum-walked-16-requires-2 Inv-loop μ-loop
+sum-walked-16-requires-2 c κs = search needs
 
 add-put-16-2 : tie.Need-add-put-16-2 Inv-loop μ-loop
 add-put-16-2 c = search needs
@@ -67,7 +67,7 @@ returns c =
     let lp = b .before .before .before .before in
     strip-all _ _ _ _ _ _ _ (search needs) (search needs)
     (strip-more _ _ _ _ _ (lp .before .before .pre .1) 16 _ _ _ _ _ (lp .loop .inv .1) (search needs) (search needs) (search needs) (search needs)
-    (b .sum-few-162 .ensures) (c .before .before .put-162 .ensures))
+    (b .sum-walked-162 .ensures) (c .before .before .put-162 .ensures))
     (search needs)
 
 same-length-2 : tie.Need-same-length-2 Inv-loop μ-loop
@@ -85,14 +85,14 @@ fill-sparse-spec =
     mul-at
     loop-holds
     add-loop
-    sum-few-16-requires
+    sum-walked-16-requires
     add-put-16
     put-16-requires
     add-o
     loop-less
     loop-again
     sub-last
-    sum-few-16-requires-2
+    sum-walked-16-requires-2
     add-put-16-2
     put-16-requires-2
     same-length

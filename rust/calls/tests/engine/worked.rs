@@ -104,8 +104,8 @@ fn c7_partial_rebuilds() {
     worked(call, c7(0, [0x11, 0x22, 0x44, 0x88, 0x77, 0xBB, 0xDD]), 0, vec![whole]);
     worked(call, c7(1, [0, 0x22, 0x44, 0x88, 0x77, 0xBB, 0xDC]), 12, Vec::new());
     worked(call, input(2, &[1], 6, &[0x5A, 1, 2]), 256 * 2, vec![vec![0x5A, 1, 0x5A]]);
-    // of disk 0's three mirrors one differs: disk 0 is not written, though any of them would tell it
     worked(call, input(2, &[1, 1, 1], 3, &[0, 1, 7, 7, 7]), 256 * 2, vec![vec![7, 1, 7, 7, 7]]);
+    // of disk 0's three mirrors one differs: disk 0 is not written, though any of them would tell it
     worked(call, input(2, &[1, 1, 1], 3, &[0, 1, 7, 8, 7]), 12, Vec::new());
 }
 

@@ -1,4 +1,4 @@
--- `strip_blocks::few::is_sparse` meets its contract. Assumes nothing.
+-- `strip_blocks::walking::is_sparse` meets its contract. Assumes nothing.
 use mathlib.Core.Path.{sym, ap, _∙_}
 use mathlib.Core.Bool.{false}
 use Prim.Native.Nat.{ℕ, _-_, _*_, _/_, _<_, _≤_}
@@ -7,8 +7,8 @@ use borrow.Author.Needs.{needs}
 use lib.Dec.{leb, ltb}
 use Rattle.gf2.specs.Sets.{size}
 use Rattle.gf2.proofs.Tests.{ltb-in, ltb-out, if-true, if-false}
-use Rattle.strip_blocks.proofs.few.is_sparse.Statement.{statement}
-use Rattle.strip_blocks.proofs.few.is_sparse.Tie as tie
+use Rattle.strip_blocks.proofs.walking.is_sparse.Statement.{statement}
+use Rattle.strip_blocks.proofs.walking.is_sparse.Tie as tie
 
 mul-if1 : tie.Need-mul-if1
 mul-if1 c = search needs
