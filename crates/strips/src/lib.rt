@@ -167,11 +167,11 @@ pub fn fill(s: &mut [u8], l: usize, n: usize, targets: u32, sets: [u32; 32])
             return;
         }
     }
-    if l < 8192 {
-        fill_each(s, l, n, targets, sets);
-    } else if strip_dense::is_dense(n, targets, sets) {
-        strip_dense::fill(s, l, n, targets, sets);
-    } else {
-        fill_each(s, l, n, targets, sets);
+    if 8192 <= l {
+        if strip_dense::is_dense(n, targets, sets) {
+            strip_dense::fill(s, l, n, targets, sets);
+            return;
+        }
     }
+    fill_each(s, l, n, targets, sets);
 }
