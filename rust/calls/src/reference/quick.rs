@@ -17,8 +17,8 @@ pub fn fatal_by_two_words(code: &Code, set: u32) -> bool {
     left.windows(2).any(|two| two[0] == two[1])
 }
 
-/// The undetermined disks by the definition with two data words: sorted by what the survivors hold, those that agree there stand together, and a disk on
-/// which two of these differ is one on which two neighbours do.
+/// The undetermined disks by the definition with two data words: sorted by what the survivors hold, those that agree there stand together,
+/// and a disk on which two of these differ is one on which two neighbours do.
 pub fn undetermined_by_two_words(code: &Code, set: u32) -> u32 {
     let mut words = code.held.clone();
     words.sort_unstable_by_key(|held| held & !set);

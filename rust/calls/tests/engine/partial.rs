@@ -11,9 +11,9 @@ use calls::reference::{code, verdict};
 use calls::stripes::lose;
 use calls::table::{Row, TABLE};
 
-const LENGTHS: [usize; 28] = [
+const LENGTHS: [usize; 29] = [
     1, 2, 3, 4, 7, 15, 16, 17, 31, 33, 53, 54, 63, 64, 100, 127, 128, 129, 255, 257, 1000, 1023, 1024, 1025, 4096,
-    8192, 32_767, 65_536,
+    4097, 8192, 32_767, 65_536,
 ];
 
 fn row() -> &'static Row {
