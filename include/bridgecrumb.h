@@ -84,7 +84,8 @@ uint64_t bridgecrumb_verdict(const uint8_t *card, size_t card_len, uint32_t set)
 uint64_t bridgecrumb_list(const uint8_t *card, size_t card_len, uint32_t *out, size_t out_len, size_t vector[17]);
 
 /* Takes a card and a disk. Writes into `out` its equations with no smaller one inside, each a set of
- * disks whose XOR is the disk, smaller size first, then smaller set number; the value is the count.
+ * disks whose XOR is the disk, smaller size first, then fewer parity disks, then smaller set number; the
+ * value is the count.
  * Refuses 1 to 5, then 9, then 10. */
 uint64_t bridgecrumb_equations(const uint8_t *card, size_t card_len, size_t disk, uint32_t *out, size_t out_len);
 

@@ -88,7 +88,7 @@ def is_equation(k, cols, disk, told_by):
 def equations(k, cols, disk):
     every = [e for e in range(2 ** (k + len(cols))) if is_equation(k, cols, disk, e)]
     least = [e for e in every if not any(f != e and f & e == f for f in every)]
-    return sorted(least, key=lambda e: (bin(e).count("1"), e))
+    return sorted(least, key=lambda e: (bin(e).count("1"), bin(e >> k).count("1"), e))
 
 
 def listing(card):

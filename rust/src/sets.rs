@@ -53,8 +53,8 @@ pub fn minimal_erasures(card: &[u8], out: &mut [u32]) -> Result<Listing, Error> 
 }
 
 /// Takes a card, a disk and a slice; writes the disk's recovery equations (the sets without the disk whose XOR
-/// is the disk) with no smaller one inside at the slice's front, smaller size first, then smaller set
-/// number. Answers their count. Entries past the count keep what they had.
+/// is the disk) with no smaller one inside at the slice's front, smaller size first, then fewer parity disks,
+/// then smaller set number. Answers their count. Entries past the count keep what they had.
 ///
 /// Refuses 1 to 5, then 9, then 10 where the slice is shorter than the count. A refused call writes nothing.
 ///
@@ -63,6 +63,9 @@ pub fn minimal_erasures(card: &[u8], out: &mut [u32]) -> Result<Listing, Error> 
 /// let mut list = [0; 4];
 /// assert_eq!(bridgecrumb::equations(&[4, 3, 7, 0, 11, 0, 13, 0], 0, &mut list)?, 4);
 /// assert_eq!(list, [22, 42, 76, 112]);
+/// // disk 2: 56 has two parity disks, 73 one
+/// assert_eq!(bridgecrumb::equations(&[4, 3, 7, 0, 11, 0, 13, 0], 2, &mut list)?, 4);
+/// assert_eq!(list, [19, 73, 56, 98]);
 /// # Ok::<(), bridgecrumb::Error>(())
 /// ```
 pub fn equations(card: &[u8], disk: usize, out: &mut [u32]) -> Result<usize, Error> {

@@ -15,7 +15,7 @@ use Rattle.flat.specs.Lists.{member}
 use Rattle.flat.specs.Cards.{Code, codeOf, disks, setOk}
 use Rattle.flat.specs.Strips.{lengthOk, byteOf}
 use Rattle.flat.specs.Erasures.{fatal, undeterminedSet, minimalErasure, erasures}
-use Rattle.flat.specs.Equations.{minimalEquation, equations}
+use Rattle.flat.specs.Equations.{minimalEquation, equations, Precedes}
 use Rattle.flat.specs.Rebuilding.{Agreeing, agreeing}
 use Rattle.flat.specs.Faults.{Report, accepted, refused, cardReport, erasuresReport, equationsReport, survivorsReport, disksReport, rebuildReport}
 use Rattle.demands.specs.Demand3.{Demand3, OneVerdict, RightList, RightEquations, Restored, RightRebuild, listed, told}
@@ -65,8 +65,8 @@ module _ (card : List ℕ) (k m : ℕ) (ok : cardReport card ≡ accepted (k ∷
           count = told-counted;
           exact = λ E. subst (λ (l : List ℕ). T (member E l) ↔ ((E < 2 ^ disks C) × T (minimalEquation C d E))) (sym told-written)
               (equated.equations-out C d E, λ p. equated.equations-in C d E (p .0) (p .1));
-          ordered = subst (λ (l : List ℕ). (i j : ℕ) → i < j → j < length l → equated.Before C d (getD l i 0) (getD l j 0)) (sym told-written)
-              (sorted-at (equated.Before C d) (equations C d) (equated.equations-sorted C d));
+          ordered = subst (λ (l : List ℕ). (i j : ℕ) → i < j → j < length l → Precedes C (getD l i 0) (getD l j 0)) (sym told-written)
+              (sorted-at (Precedes C) (equations C d) (equated.equations-sorted C d));
         }
 
 -- ---- the rebuilder's verdict

@@ -12,7 +12,7 @@ use Rattle.flat.specs.Lists.{member}
 use Rattle.flat.specs.Cards.{codeOf, disks, setOk, dataPart}
 use Rattle.flat.specs.Strips.{lengthOk, byteOf, given}
 use Rattle.flat.specs.Erasures.{survivors, fatal, minimalErasure, erasures}
-use Rattle.flat.specs.Equations.{minimalEquation, equations}
+use Rattle.flat.specs.Equations.{minimalEquation, equations, Precedes}
 use Rattle.flat.specs.Rebuilding.{Agreeing}
 use Rattle.flat.specs.Faults.{accepted, refused, cardReport, verdictReport, erasuresReport, erasuresSlice, equationsReport, equationsSlice, rebuildReport, rebuildStripe}
 
@@ -41,14 +41,12 @@ pub record RightList (card slice : List ℕ) : Type 0 where
       let S = getD (listed card slice) j 0 in
       (size R < size S) ⊎ ((size R ≡ size S) × (dataPart (codeOf card) R < dataPart (codeOf card) S))
 
--- the equation call's list of disk d
+-- the equation call's list of disk d, in the order of document 02, request [6]
 pub record RightEquations (card : List ℕ) (d : ℕ) (slice : List ℕ) : Type 0 where
   pub count : equationsReport card d (length slice) ≡ accepted (length (equations (codeOf card) d) ∷ [])
   pub exact : (E : ℕ) → T (member E (told card d slice)) ↔ ((E < 2 ^ disks (codeOf card)) × T (minimalEquation (codeOf card) d E))
   pub ordered : (i j : ℕ) → i < j → j < length (told card d slice)
-      → let E = getD (told card d slice) i 0 in
-      let F = getD (told card d slice) j 0 in
-      (size E < size F) ⊎ ((size E ≡ size F) × (E < F))
+      → Precedes (codeOf card) (getD (told card d slice) i 0) (getD (told card d slice) j 0)
 
 -- a set that is not fatal: refused exactly where no content agrees; else only one does, each lost strip becomes what it gives, and
 -- the other strips keep their bytes

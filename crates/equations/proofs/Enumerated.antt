@@ -1,33 +1,51 @@
 -- The equations of a disk, as the enumeration over the checks gives them.
 -- Assumes nothing.
-use mathlib.Core.Path.{_≡_, sym, ap, _∙_, subst}
-use mathlib.Core.Bool.{Bool, _&&_}
-use mathlib.Core.List.{map}
-use Prim.Native.Nat.{ℕ, suc, _-_, _^_, _≤_, _<_}
+use mathlib.Core.Path.{_≡_, sym, ap, ap₂, _∙_, subst}
+use mathlib.Core.Bool.{Bool, true, not, _&&_, and-true}
+use mathlib.Core.List.{List, map}
+use Prim.Native.Nat.{ℕ, suc, _+_, _-_, _^_, _≤_, _<_}
 use native.Mathlib.Omega.{arith}
-use lib.Dec.{eqb}
+use borrow.Author.Tests.{le-ltb}
+use lib.Dec.{eqb, ltb}
 use lib.ListN.{length}
-use Rattle.gf2.specs.Sets.{has, size, _∖_, _⊆_}
+use Rattle.gf2.specs.Sets.{has, size, setOf, _∩_, _∖_, _⊆_}
 use Rattle.gf2.specs.Span.{select}
 use Rattle.gf2.specs.Within.{within}
-use Rattle.gf2.proofs.Tests.{T-ext}
+use Rattle.gf2.proofs.Tests.{T-ext, and-out, not-out, ltb-in}
 use Rattle.gf2.proofs.Subsets.{⊆-out, power-in, power-⊆}
-use Rattle.gf2.proofs.Sizes.{size-lt}
+use Rattle.gf2.proofs.Sizes.{size-lt, size-split}
 use Rattle.gf2.proofs.Sums.{select-in}
-use Rattle.flat.specs.Lists.{range, filter, orderedBy}
+use Rattle.flat.specs.Lists.{range, filter, orderedBy, count}
 use Rattle.flat.specs.Cards.{Code, disks}
-use Rattle.flat.specs.Equations.{equations}
+use Rattle.flat.specs.Equations.{parityDisks, bySizeAndParities, equations}
 use Rattle.flat.specs.Spans.{checks, selectors, equationsByParities}
 use Rattle.flat.proofs.Rows.{checks-length}
 use Rattle.flat.proofs.CheckWords.{less-lt}
-use Rattle.flat.proofs.Members.{In, map-out}
+use Rattle.flat.proofs.Counts.{count-le, count-append, count-cong, count-none, size-those}
+use Rattle.flat.proofs.Members.{In, map-out, ordered-out}
 use Rattle.flat.proofs.EquationsListed.{equations-enumerated}
 use Rattle.minimal_words.specs.Listed.{kept, entry, keptFrom, entries, sizes, listed}
 use Rattle.flat.proofs.Filters.{filter-cong, filter-both}
-use Rattle.flat.proofs.Blocks.{ordered-same}
-use Rattle.minimal_marks.proofs.Keys.{listed-sizes}
+use Rattle.flat.proofs.Blocks.{ordered-same, ordered-cong}
+use Rattle.minimal_marks.proofs.Keys.{listed-keys}
 use Rattle.minimal_marks.proofs.Entries.{entries-small}
 use Rattle.bases.proofs.Systematic.{checks-systematic}
+
+-- the parity disks, as the call has them: the code's disks that are not below k
+abbrev pub slower : Code → ℕ
+slower C = setOf (disks C) (λ i. not (ltb i (C .k)))
+
+-- how many of them a set holds
+slower-held : (C : Code) (E : ℕ) → size (E ∩ slower C) ≡ parityDisks C E
+unfolding disks parityDisks
+slower-held C E =
+    let z : 0 + parityDisks C E ≡ parityDisks C E = omega arith in
+    size-those (disks C) E (λ i. not (ltb i (C .k))) ∙ count-append (C .k) (C .m) (λ i. has E i && not (ltb i (C .k)))
+    ∙ ap₂ _+_
+    (count-none (C .k) (λ i. has E i && not (ltb i (C .k))) (λ i l t. not-out (ltb i (C .k)) (and-out (has E i) (not (ltb i (C .k))) t .1) (ltb-in l)))
+    (count-cong (C .m) (λ j. has E (C .k + j) && not (ltb (C .k + j) (C .k))) (λ j. has E (C .k + j))
+    (λ j l. ap (λ (b : Bool). has E (C .k + j) && not b) (le-ltb (C .k + j) (C .k) (omega arith)) ∙ and-true (has E (C .k + j))))
+    ∙ z
 
 module _ (C : Code) (d : ℕ) where
   -- the set of one disk lies in a word that holds it
@@ -58,8 +76,30 @@ module _ (C : Code) (d : ℕ) where
     unfolding disks
     entries-below = entries-small (disks C) (checks C) (2 ^ d) (checks-systematic C) (omega (arith, checks-length C))
 
-    pub listed-equations : listed (checks C) (2 ^ d) 0 ≡ equations C d
+    -- so it holds fewer parity disks than there are sizes
+    slower-below : (w : ℕ) → In w (entries (checks C) (2 ^ d)) → size (w ∩ slower C) < sizes
+    slower-below w t = omega (arith, size-split w (slower C), entries-below w t)
+
+    abbrev by-parities : List ℕ
+    by-parities = orderedBy (parityDisks C) (suc (C .m)) (entries (checks C) (2 ^ d))
+
+    second-key : orderedBy (λ w. size (w ∩ slower C)) sizes (entries (checks C) (2 ^ d)) ≡ by-parities
+    unfolding parityDisks
+    second-key =
+        ordered-cong (λ w. size (w ∩ slower C)) (parityDisks C) (entries (checks C) (2 ^ d)) (λ w t. slower-held C w) sizes
+        ∙ ordered-same (parityDisks C) (entries (checks C) (2 ^ d)) sizes (suc (C .m))
+        (λ w t. omega (arith, slower-held C w, slower-below w t))
+        (λ w t. omega (arith, count-le (C .m) (λ j. has w (C .k + j))))
+
+    first-key : orderedBy size sizes by-parities ≡ bySizeAndParities C (entries (checks C) (2 ^ d))
+    unfolding bySizeAndParities
+    first-key =
+        let member : (w : ℕ) → In w by-parities → In w (entries (checks C) (2 ^ d)) =
+        λ w t. ordered-out (parityDisks C) (suc (C .m)) w (entries (checks C) (2 ^ d)) t .1 in
+        ordered-same size by-parities sizes (suc (disks C)) (λ w t. entries-below w (member w t)) (λ w t. entries-fit w (member w t))
+
+    pub listed-equations : listed (checks C) (2 ^ d) (slower C) ≡ equations C d
     unfolding equationsByParities
     listed-equations =
-        listed-sizes (checks C) (2 ^ d) ∙ ordered-same size (entries (checks C) (2 ^ d)) sizes (suc (disks C)) entries-below entries-fit
-        ∙ ap (orderedBy size (suc (disks C))) entries-checks ∙ sym (equations-enumerated C d l)
+        listed-keys (checks C) (2 ^ d) (slower C) slower-below ∙ ap (orderedBy size sizes) second-key ∙ first-key
+        ∙ ap (bySizeAndParities C) entries-checks ∙ sym (equations-enumerated C d l)

@@ -9,8 +9,9 @@ use lib.ListN.{length, length-map}
 use Rattle.gf2.specs.Sets.{has, size, _∖_}
 use Rattle.gf2.specs.Span.{select}
 use Rattle.gf2.specs.Within.{within}
-use Rattle.flat.specs.Lists.{range, filter}
+use Rattle.flat.specs.Lists.{range, filter, orderedBy}
 use Rattle.flat.specs.Cards.{Code, disks}
+use Rattle.flat.specs.Equations.{parityDisks, bySizeAndParities}
 use Rattle.flat.specs.Spans.{rows, checks, selectors, erasuresByWord, equationsByParities}
 use Rattle.flat.proofs.Rows.{rows-length, checks-length}
 use Rattle.flat.proofs.ErasuresListed.{erasures-enumerated}
@@ -44,12 +45,14 @@ erasures-few C =
     omega (arith, ap length (erasures-enumerated C), by-word-length C, ap (λ (n : ℕ). 2 ^ n) (rows-length C))
 
 by-parities-length : (C : Code) (d : ℕ) → length (equationsByParities C d) ≤ 2 ^ length (checks C) - 1
-unfolding equationsByParities
+unfolding equationsByParities bySizeAndParities
 by-parities-length C d =
     let holding = filter (λ p. has (select (checks C) p) d) (selectors (checks C)) in
+    let candidates = map (λ p. select (checks C) p ∖ 2 ^ d) holding in
     omega (
       arith,
-      ordered-most size (suc (disks C)) (map (λ p. select (checks C) p ∖ 2 ^ d) holding),
+      ordered-most size (suc (disks C)) (orderedBy (parityDisks C) (suc (C .m)) candidates),
+      ordered-most (parityDisks C) (suc (C .m)) candidates,
       length-map holding (λ p. select (checks C) p ∖ 2 ^ d),
       filter-length (λ p. has (select (checks C) p) d) (selectors (checks C)),
       selectors-length (checks C),

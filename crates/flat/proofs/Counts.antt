@@ -1,7 +1,7 @@
 -- How many numbers below a bound have a property, and how many disks a set made by a test holds.
 -- Assumes nothing.
 use mathlib.Core.Path.{_≡_, refl, sym, ap, ap₂, _∙_}
-use mathlib.Core.Bool.{Bool, true, false}
+use mathlib.Core.Bool.{Bool, true, false, _&&_}
 use mathlib.Core.Logic.{_⊎_, inl, inr, ⊎-elim}
 use Prim.Native.Nat.{ℕ, zero, suc, _+_, _*_, _^_, _≤_, _<_}
 use native.Mathlib.Nat.{le-refl, add-zero}
@@ -9,10 +9,11 @@ use native.Mathlib.Omega.{arith}
 use lib.Count.{ones, ones-cat}
 use lib.Dec.{T, eqb}
 use Rattle.gf2.specs.If.{if_then_else_}
-use Rattle.gf2.specs.Sets.{size}
-use Rattle.gf2.proofs.Tests.{eqb-in, eqb-out, below-suc, if-true, if-false}
+use Rattle.gf2.specs.Sets.{has, size, _∩_}
+use Rattle.gf2.proofs.Tests.{T-ext, and-in, and-out, eqb-in, eqb-out, below-suc, if-true, if-false}
+use Rattle.gf2.proofs.Subsets.{∩-in, ∩-out, same-disks}
 use Rattle.flat.specs.Lists.{count, setOf}
-use Rattle.flat.proofs.Quantifiers.{set-lt}
+use Rattle.flat.proofs.Quantifiers.{set-lt, set-in, set-out}
 
 pub count-le : (n : ℕ) (p : ℕ → Bool) → count n p ≤ n
 unfolding count
@@ -54,19 +55,22 @@ count-append k zero p = ap (λ (x : ℕ). count x p) (add-zero k) ∙ sym (add-z
 count-append k (suc m) p =
     let e : k + suc m ≡ suc (k + m) = omega arith in ap (λ (x : ℕ). count x p) e ∙ omega (arith, count-append k m p)
 
+-- no number has the property
+pub count-none : (n : ℕ) (p : ℕ → Bool) → ((i : ℕ) → i < n → T (p i) → ⊥) → count n p ≡ 0
+unfolding count
+count-none zero p h = refl
+count-none (suc n) p h = ap₂ (λ (x y : ℕ). x + y) (count-none n p (λ i l. h i (omega arith))) (if-false (p n) 1 0 (h n (omega arith)))
+
 -- one number alone is d
 pub count-one : (n d : ℕ) → d < n → count n (λ i. eqb i d) ≡ 1
 unfolding count
 count-one zero d l = absurd (omega arith)
 count-one (suc n) d l = go (below-suc d n l) (count-one n d)
   where
-    none : (b : ℕ) → b ≤ d → count b (λ i. eqb i d) ≡ 0
-    none zero h = refl
-    none (suc b) h = ap₂ (λ (x y : ℕ). x + y) (none b (omega arith)) (if-false (eqb b d) 1 0 (λ t. let e = eqb-out b d t in omega arith))
-
     go : (d < n) ⊎ (d ≡ n) → (d < n → count n (λ i. eqb i d) ≡ 1) → count n (λ i. eqb i d) + (if eqb n d then 1 else 0) ≡ 1
     go (inl m) rest = ap₂ (λ (x y : ℕ). x + y) (rest m) (if-false (eqb n d) 1 0 (λ t. let e = eqb-out n d t in omega arith))
-    go (inr e) rest = ap₂ (λ (x y : ℕ). x + y) (none n (omega arith)) (if-true (eqb n d) 1 0 (eqb-in (sym e)))
+    go (inr e) rest =
+        ap₂ (λ (x y : ℕ). x + y) (count-none n (λ i. eqb i d) (λ i h t. let f = eqb-out i d t in omega arith)) (if-true (eqb n d) 1 0 (eqb-in (sym e)))
 
 -- ---- how many disks a set holds
 
@@ -86,3 +90,17 @@ pub size-set : (n : ℕ) (p : ℕ → Bool) → size (setOf n p) ≡ count n p
 unfolding size setOf count
 size-set zero p = refl
 size-set (suc n) p = size-above n (setOf n p) (p n) (set-lt n p) ∙ ap (λ (x : ℕ). x + (if p n then 1 else 0)) (size-set n p)
+
+-- and how many of them have a property
+pub size-those : (n S : ℕ) (p : ℕ → Bool) → size (S ∩ setOf n p) ≡ count n (λ i. has S i && p i)
+size-those n S p =
+    ap size
+    (same-disks (S ∩ setOf n p) (setOf n (λ i. has S i && p i))
+    (λ i. T-ext
+    (λ t. let r = ∩-out S (setOf n p) i t in
+    let q = set-out n p i (r .1) in
+    set-in n (λ j. has S j && p j) i (q .0) (and-in (has S i) (p i) (r .0) (q .1)))
+    (λ t. let q = set-out n (λ j. has S j && p j) i t in
+    let r = and-out (has S i) (p i) (q .1) in
+    ∩-in S (setOf n p) i (r .0) (set-in n p i (q .0) (r .1)))))
+    ∙ size-set n (λ i. has S i && p i)

@@ -11,7 +11,7 @@ use lib.ListN.{length, getD}
 use Rattle.gf2.specs.If.{if_then_else_}
 use Rattle.gf2.proofs.Tests.{eqb-out}
 use Rattle.flat.specs.Lists.{range, filter, each, orderedBy}
-use Rattle.flat.proofs.Members.{In, in-head, in-tail, in-cons, in-nil, in-at, in-append, each-out, range-out, filter-out, map-out}
+use Rattle.flat.proofs.Members.{In, in-head, in-tail, in-cons, in-nil, in-at, in-place, in-append, each-out, range-out, filter-out, map-out}
 
 abbrev pub Rel : Type 1
 Rel = ℕ → ℕ → Type 0
@@ -30,6 +30,13 @@ sorted-at R [] s i j l h = absurd (omega arith)
 sorted-at R (x ∷ xs) s i zero l h = absurd (omega arith)
 sorted-at R (x ∷ xs) s zero (suc j) l h = s .0 (getD xs j 0) (in-at xs j (omega arith))
 sorted-at R (x ∷ xs) s (suc i) (suc j) l h = sorted-at R xs (s .1) i j (omega arith) (omega arith)
+
+pub sorted-from : (R : Rel) (xs : List ℕ) → ((i j : ℕ) → i < j → j < length xs → R (getD xs i 0) (getD xs j 0)) → Sorted R xs
+sorted-from R [] h = tt
+sorted-from R (x ∷ xs) h = (
+  λ y t. let p = in-place y xs t in let l = p .1 in subst (R x) (p .2) (h 0 (suc (p .0)) (omega arith) (omega arith)),
+  sorted-from R xs (λ i j l m. h (suc i) (suc j) (omega arith) (omega arith)),
+)
 
 -- another relation between members, and a mapping that carries one to the other
 pub sorted-map : (Q R : Rel) (f : ℕ → ℕ) (xs : List ℕ) → ((x y : ℕ) → In x xs → In y xs → Q x y → R (f x) (f y)) → Sorted Q xs → Sorted R (map f xs)

@@ -7,7 +7,7 @@ use Rattle.flat.specs.Theorems
 use Rattle.flat.specs.Rebuilt
 use Rattle.flat.specs.Spans.{checks}
 use Rattle.flat.specs.Erasures.{erasures}
-use Rattle.flat.specs.Equations.{equations}
+use Rattle.flat.specs.Equations.{equations, Precedes}
 use Rattle.flat.proofs.RoundTrip as round
 use Rattle.flat.proofs.Words.{codeword-⊕}
 use Rattle.flat.proofs.Rows as spans
@@ -102,7 +102,10 @@ pub equations-exact : Theorems.EquationsExact
 equations-exact C d E = (equated.equations-out C d E, λ p. equated.equations-in C d E (p .0) (p .1))
 
 pub equations-ordered : Theorems.EquationsOrdered
-equations-ordered C d = sorted-at (equated.Before C d) (equations C d) (equated.equations-sorted C d)
+equations-ordered C d = sorted-at (Precedes C) (equations C d) (equated.equations-sorted C d)
+
+pub equations-only : Theorems.EquationsOnly
+equations-only = equated.equations-only
 
 pub equation-holds-listed : Theorems.EquationHoldsListed
 equation-holds-listed = equated.equation-listed

@@ -11,6 +11,7 @@ use Rattle.gf2.specs.Within.{within}
 use Rattle.flat.specs.Lists.{setOf, range, tabulate, filter, orderedBy}
 use Rattle.flat.specs.Cards.{Code, disks}
 use Rattle.flat.specs.Erasures.{holdsBit}
+use Rattle.flat.specs.Equations.{bySizeAndParities}
 use Rattle.flat.specs.Checks.{row, check}
 
 -- the codeword of a data word: the disks that hold 1
@@ -39,7 +40,6 @@ erasuresByWord C = orderedBy size (suc (disks C)) (map (select (rows C)) (select
 
 -- the equations of disk d, one candidate for each set of parities
 unfoldable pub equationsByParities : Code → ℕ → List ℕ
-unfolding orderedBy size disks select checks selectors filter has _∖_
+unfolding bySizeAndParities select checks selectors filter has _∖_
 equationsByParities C d =
-    orderedBy size (suc (disks C))
-    (map (λ p. select (checks C) p ∖ 2 ^ d) (filter (λ p. has (select (checks C) p) d) (selectors (checks C))))
+    bySizeAndParities C (map (λ p. select (checks C) p ∖ 2 ^ d) (filter (λ p. has (select (checks C) p) d) (selectors (checks C))))

@@ -12,7 +12,7 @@ use Rattle.gf2.specs.Within.{within}
 use Rattle.flat.specs.Lists.{Bytes, sum, member, padded}
 use Rattle.flat.specs.Cards.{Code, code, codeOf, disks, column, dataPart}
 use Rattle.flat.specs.Erasures.{holdsBit, survivors, fatal, undetermined, undeterminedSet, determinedSet, minimalErasure, erasures, vector}
-use Rattle.flat.specs.Equations.{equation, minimalEquation, equations}
+use Rattle.flat.specs.Equations.{equation, minimalEquation, equations, Precedes}
 use Rattle.flat.specs.Faults.{accepted, cardReport, cardColumns, cardWriteReport, cardWriteBuffer, erasuresReport, erasuresVector, equationsReport, equationsSlice}
 use Rattle.flat.specs.Spans.{codeword, rows, checks, erasuresByWord, equationsByParities}
 
@@ -157,13 +157,18 @@ VectorAnswered =
 abbrev pub EquationsExact : Type 0
 EquationsExact = (C : Code) (d E : ℕ) → T (member E (equations C d)) ↔ ((E < 2 ^ disks C) × T (minimalEquation C d E))
 
--- An earlier entry is smaller, or as large and of smaller set number. So each stands there once.
+-- An earlier entry is smaller; or as large, with fewer parity disks; or equal in both, with the smaller set number. So each stands there once.
 abbrev pub EquationsOrdered : Type 0
 EquationsOrdered =
-    (C : Code) (d i j : ℕ) → i < j → j < length (equations C d)
-    → let E = getD (equations C d) i 0 in
-    let F = getD (equations C d) j 0 in
-    (size E < size F) ⊎ ((size E ≡ size F) × (E < F))
+    (C : Code) (d i j : ℕ) → i < j → j < length (equations C d) → Precedes C (getD (equations C d) i 0) (getD (equations C d) j 0)
+
+-- No other list has these members in this order.
+abbrev pub EquationsOnly : Type 0
+EquationsOnly =
+    (C : Code) (d : ℕ) (list : List ℕ)
+    → ((E : ℕ) → T (member E list) ↔ ((E < 2 ^ disks C) × T (minimalEquation C d E)))
+    → ((i j : ℕ) → i < j → j < length list → Precedes C (getD list i 0) (getD list j 0))
+    → list ≡ equations C d
 
 -- Every equation of the disk contains an entry.
 abbrev pub EquationHoldsListed : Type 0

@@ -86,6 +86,10 @@ set-is n S p h e = same-disks (setOf n p) S (λ i. go i (below-or i n))
     go i (inr l) =
         T-ext (λ t. absurd (not-has (setOf n p) i (bit-above n (setOf n p) i (set-lt n p) l) t)) (λ t. absurd (not-has S i (bit-above n S i h l) t))
 
+-- the same test, in other words
+pub set-cong : (n : ℕ) (p q : ℕ → Bool) → ((i : ℕ) → i < n → p i ≡ q i) → setOf n p ≡ setOf n q
+set-cong n p q h = set-is n (setOf n q) p (set-lt n q) (λ i l. h i l ∙ sym (has-set n q i l))
+
 -- the disks below n that are not lost
 pub rest-set : (n lost : ℕ) → first n ∖ lost ≡ setOf n (λ i. not (has lost i))
 rest-set n lost =

@@ -47,7 +47,7 @@ pub fn below(set: u32, n: u32) -> bool
 }
 
 // The disks below n.
-fn first(n: u32) -> u32
+pub fn first(n: u32) -> u32
     requires { ⌜ (1 ≤ n) × (n ≤ 32) ⌝ }
     ensures { λ r. ⌜ r ≡ first n ⌝ }
 {

@@ -35,7 +35,7 @@ pub fn table() -> [Row; TABLE.len()] {
 
 /// Each under a line that says what is wrong.
 #[rustfmt::skip]
-const PLANTED: [Planted; 39] = [
+const PLANTED: [Planted; 41] = [
     // the last wrong column instead of the first
     Archive("card_read", |input, lent| last_wrong_column(input, (cards::READ.engine)(input, lent))),
     // a refusal writes k
@@ -63,7 +63,7 @@ const PLANTED: [Planted; 39] = [
         instead(sets::VERDICT.engine, input, lent, 0, large(input) && one_size, 0)
     }),
     // an entry is written behind the list
-    Archive("list", |input, lent| listed(input, lent, |out, count| if count < out.len() { out[count] = 0 })),
+    Archive("list", |input, lent| listed(sets::LIST.engine, input, lent, |out, count| if count < out.len() { out[count] = 0 })),
     // the vector's last number is missing
     Archive("list", |input, lent| after(sets::LIST.engine, input, lent, 0, |lent, _| {
         let m = usize::from(input.card[1]);
@@ -72,9 +72,9 @@ const PLANTED: [Planted; 39] = [
     // a refusal writes the vector
     Archive("list", |input, lent| after(sets::LIST.engine, input, lent, 10, |lent, _| lent.written(1)[0] = 0)),
     // entries of one size by set number
-    Archive("list", |input, lent| listed(input, lent, |out, count| out[..count].sort_by_key(|set| (set.count_ones(), *set)))),
+    Archive("list", |input, lent| listed(sets::LIST.engine, input, lent, |out, count| out[..count].sort_by_key(|set| (set.count_ones(), *set)))),
     // an entry that is not minimal in a larger code
-    Archive("list", |input, lent| listed(input, lent, |out, count| if count > 20 { out[count - 1] |= 1 })),
+    Archive("list", |input, lent| listed(sets::LIST.engine, input, lent, |out, count| if count > 20 { out[count - 1] |= 1 })),
     // the last entry is none, in codes of more than 8 disks and 20 entries
     Archive("list", |input, lent| one_less(sets::LIST.engine, input, lent, 20, 8)),
     // disk n is accepted
@@ -83,6 +83,13 @@ const PLANTED: [Planted; 39] = [
     Archive("equations", |input, lent| one_less(sets::EQUATIONS.engine, input, lent, 3, 0)),
     // the last entry is none, in codes of more than 8 disks and 10 entries
     Archive("equations", |input, lent| one_less(sets::EQUATIONS.engine, input, lent, 10, 8)),
+    // entries of one size by set number
+    Archive("equations", |input, lent| listed(sets::EQUATIONS.engine, input, lent, |out, count| out[..count].sort_by_key(|set| (set.count_ones(), *set)))),
+    // entries with fewer parity disks before smaller ones
+    Archive("equations", |input, lent| listed(sets::EQUATIONS.engine, input, lent, |out, count| {
+        let parities = |set: &u32| (set >> input.card[0]).count_ones();
+        out[..count].sort_by_key(parities);
+    })),
     // a refusal writes
     Archive("rebuild", |input, lent| after(strips::REBUILD.engine, input, lent, 12, |lent, _| lent.written(0)[0] ^= (input.set & 1) as u8)),
     // the last lost strip is not restored
@@ -187,8 +194,8 @@ fn one_less(engine: Engine, input: &Input, lent: &mut Lent, entries: u64, more_t
 }
 
 /// The lister, and something done to its slice where it is accepted.
-fn listed(input: &Input, lent: &mut Lent, change: impl FnOnce(&mut [u32], usize)) -> u64 {
-    after(sets::LIST.engine, input, lent, 0, |lent, count| {
+fn listed(engine: Engine, input: &Input, lent: &mut Lent, change: impl FnOnce(&mut [u32], usize)) -> u64 {
+    after(engine, input, lent, 0, |lent, count| {
         let bytes = lent.written(0);
         let mut out: Vec<u32> = bytes.chunks(4).map(|four| u32::from_le_bytes(four.try_into().unwrap())).collect();
         change(&mut out, count);

@@ -88,6 +88,11 @@ impl Code {
         out.truncate(count);
         out
     }
+
+    /// What equations are ordered by: size, then parity disks, then set number.
+    pub fn equation_order(&self, set: u32) -> (usize, usize, u32) {
+        (size(set), size(set >> self.k), set)
+    }
 }
 
 pub fn size(set: u32) -> usize {

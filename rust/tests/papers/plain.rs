@@ -84,7 +84,7 @@ pub fn compare(code: &Code) {
     if code.m() <= 8 {
         let zero_sets = zero_sets(code);
         for disk in 0..code.n() {
-            assert_eq!(code.equations(disk), equations_by_checks(disk, &zero_sets), "{:?}, disk {}", code, disk);
+            assert_eq!(code.equations(disk), equations_by_checks(code, disk, &zero_sets), "{:?}, disk {}", code, disk);
         }
     }
 }
@@ -98,11 +98,11 @@ fn zero_sets(code: &Code) -> Vec<u32> {
 }
 
 /// The equations of a disk: the zero sets that hold it, without it, of which those that hold no other are
-/// kept; smaller size first, then smaller number.
-fn equations_by_checks(disk: usize, zero_sets: &[u32]) -> Vec<u32> {
+/// kept; in the order of the call.
+fn equations_by_checks(code: &Code, disk: usize, zero_sets: &[u32]) -> Vec<u32> {
     let with = zero_sets.iter().filter(|&set| set >> disk & 1 == 1);
     let mut equations: Vec<u32> = with.map(|set| set & !(1 << disk)).collect();
-    equations.sort_by_key(|&set| (size(set), set));
+    equations.sort_by_key(|&set| code.equation_order(set));
     let mut kept: Vec<u32> = Vec::new();
     for equation in equations {
         if !holds_one(equation, &kept) {

@@ -120,7 +120,7 @@ fn the_equations_of_section_4_b() {
     for (disk, equations) in printed.iter().enumerate() {
         let set = |digits: &&str| digits.bytes().map(|digit| 1u32 << (digit - b'0')).sum();
         let mut expected: Vec<u32> = equations.iter().map(set).collect();
-        expected.sort_by_key(|&set| (size(set), set));
+        expected.sort_by_key(|&set| code.equation_order(set));
         assert_eq!(code.equations(disk), expected, "disk {}", disk);
     }
 }

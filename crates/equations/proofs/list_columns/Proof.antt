@@ -33,46 +33,53 @@ cast-set c = search needs
 shl-set : tie.Need-shl-set
 shl-set c = search needs
 
+parities-requires : tie.Need-parities-requires
+parities-requires c κs = search needs
+
 add-mark : tie.Need-add-mark
 add-mark c = search needs
 
 slice-aggregate-mark : tie.Need-slice-aggregate-mark
 slice-aggregate-mark c = search needs
 
--- what is known once the checks are made
-abbrev start : tie.After-checks → tie.Start
-start c = c .before .before .before
+-- what is known once checks and parities are made
+abbrev start : tie.After-parities → tie.Start
+start c = c .before .before .before .before
 
-abbrev codeAt : tie.After-checks → Code
+abbrev codeAt : tie.After-parities → Code
 codeAt c = codeIn (start c .args .k) (start c .args .m) (now (start c .args .columns))
 
 mark-requires : tie.Need-mark-requires
 unfolding noMarks
 mark-requires c κs =
     let a = start (c .before) .args in
-    let b = c .before .checks in
+    let b = c .before .before .checks in
     (checks-listable (a .k) (a .m) _ _ _ (omega arith) (omega arith) (b .ensures .0) (b .ensures .1), refl)
 
 -- the set of the one disk, as the code has it
-abbrev shifted : tie.After-checks → ℕ
+abbrev shifted : tie.After-parities → ℕ
 shifted c = (1 * 2 ^ start c .args .disk) % 2 ^ 32
 
--- the checks and the set, as the code hands them on
-listed-is : (c : tie.After-checks) → listed (take (c .checks .result .count) (c .checks .result .rows)) (shifted c) 0 ≡ equations (codeAt c) (start c .args .disk)
+-- the checks, the set and the parities, as the code hands them on
+listed-is : (c : tie.After-parities)
+    → listed (take (c .before .checks .result .count) (c .before .checks .result .rows)) (shifted c) (c .parities .result)
+    ≡ equations (codeAt c) (start c .args .disk)
 unfolding disks
 listed-is c =
-    let b = c .checks in
-    ap₂ (λ (l : List ℕ) (S : ℕ). listed l S 0) (taken (start c .args .m) _ _ _ (b .ensures .0) (b .ensures .1)) (one-shifted (start c .args .disk) (omega arith))
+    let b = c .before .checks in
+    ap₂ (λ (l : List ℕ) (S : ℕ). listed l S (c .parities .result)) (taken (start c .args .m) _ _ _ (b .ensures .0) (b .ensures .1))
+    (one-shifted (start c .args .disk) (omega arith))
+    ∙ ap (listed (checks (codeAt c)) (2 ^ start c .args .disk)) (c .parities .ensures)
     ∙ listed-equations (codeAt c) (start c .args .disk) (omega arith) (omega arith)
 
-rows-few : (c : tie.After-checks) → length (take (c .checks .result .count) (c .checks .result .rows)) ≤ 16
+rows-few : (c : tie.After-parities) → length (take (c .before .checks .result .count) (c .before .checks .result .rows)) ≤ 16
 rows-few c =
-    let b = c .checks in
+    let b = c .before .checks in
     omega (arith, ap length (taken (start c .args .m) _ _ _ (b .ensures .0) (b .ensures .1)), checks-length (codeAt c))
 
 starts-requires : tie.Need-starts-requires
 starts-requires c κs v h =
-    subst (λ (l : List ℕ). getD l v 0 < 65536) (sym (c .before .mark .ensures .0)) (tally-small _ _ 0 v (rows-few (c .before .before .before)) h)
+    subst (λ (l : List ℕ). getD l v 0 < 65536) (sym (c .before .mark .ensures .0)) (tally-small _ _ _ v (rows-few (c .before .before .before)) h)
 
 array-read-count : tie.Need-array-read-count
 array-read-count c = search needs
@@ -81,7 +88,7 @@ array-read-count c = search needs
 counted : (c : tie.After-starts) → getD (c .starts .result) keys 0 ≡ length (equations (codeAt (c .before .before .before .before)) (start (c .before .before .before .before) .args .disk))
 counted c =
     ap (λ (l : List ℕ). getD l keys 0) (c .starts .ensures ∙ ap starts (c .before .before .mark .ensures .0))
-    ∙ starts-last _ _ 0 _ (listed-is (c .before .before .before .before))
+    ∙ starts-last _ _ _ _ (listed-is (c .before .before .before .before))
 
 returns : tie.Need-returns
 unfolding unlessRefused
@@ -118,6 +125,7 @@ list-columns-spec =
     checks-requires
     cast-set
     shl-set
+    parities-requires
     add-mark
     slice-aggregate-mark
     mark-requires

@@ -57,6 +57,11 @@ impl Code {
     pub fn data_part(&self, set: u32) -> u32 {
         (u64::from(set) % (1 << self.k)) as u32
     }
+
+    /// How many parity disks the set holds.
+    pub fn parity_disks(&self, set: u32) -> usize {
+        (self.k..self.n()).filter(|disk| set >> disk & 1 == 1).count()
+    }
 }
 
 /// What the disks hold for a data word: a data disk its own bit, a parity disk the XOR of the bits of its data disks, which
@@ -187,7 +192,7 @@ pub fn equations(code: &Code, disk: usize) -> Result<Rc<Vec<u32>>, Refusal> {
     let mut listed = code.equations.borrow_mut();
     let made = listed.entry(disk).or_insert_with(|| {
         let mut found = if code.literal() { literal::equations(code, disk) } else { quick::equations(code, disk) };
-        found.sort_by_key(|&set| (set.count_ones(), set));
+        found.sort_by_key(|&set| (set.count_ones(), code.parity_disks(set), set));
         Rc::new(found)
     });
     Ok(made.clone())

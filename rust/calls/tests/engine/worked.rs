@@ -66,10 +66,23 @@ fn not_alike_by_the_last_number_alone() {
     worked("alike", Input { card, second, ..Input::default() }, 0, Vec::new());
 }
 
+/// C2, and what tells the order of document 02, request [6]: of C1's disk 2, 56 has two parity disks and 73 one; the smaller of two
+/// equations comes first though it has two parity disks and the other one.
 #[test]
 fn c2_equations() {
-    let input = Input { card: card_of(4, 3, &[7, 11, 13]), out_len: 6, ..Input::default() };
-    worked("equations", input, 256 * 4, vec![bytes_of(&[22, 42, 76, 112], u32::to_le_bytes)]);
+    let told = |k, columns: &[u16], disk, list: &[u32]| {
+        let card = card_of(k, columns.len(), columns);
+        let answer = 256 * list.len() as u64;
+        worked(
+            "equations",
+            Input { card, disk, out_len: 6, ..Input::default() },
+            answer,
+            vec![bytes_of(list, u32::to_le_bytes)],
+        );
+    };
+    told(4, &[7, 11, 13], 0, &[22, 42, 76, 112]);
+    told(4, &[7, 11, 13], 2, &[19, 73, 56, 98]);
+    told(3, &[7, 6], 0, &[24, 14]);
 }
 
 #[test]
