@@ -77,8 +77,8 @@ pub extern "C" fn bridgecrumb_list(card: &[u8], out: &mut [u32], vector: &mut [u
     code
 }
 
-// The equation call: the equations of the disk into the slice, smaller size first, then smaller set
-// number. A refused call writes nothing.
+// The equation call: the equations of the disk into the slice, smaller size first, then fewer parity
+// disks, then smaller set number. A refused call writes nothing.
 #[no_mangle]
 pub extern "C" fn bridgecrumb_equations(card: &[u8], disk: usize, out: &mut [u32]) -> u64
     ensures { λ r. ⌜ r ≡ coded (equationsReport (now (card .entry)) disk (length (now (out .entry)))) ⌝ }

@@ -1,21 +1,21 @@
 -- The equations of a disk, as the enumeration over the checks gives them.
 -- Assumes nothing.
 use mathlib.Core.Path.{_≡_, sym, ap, ap₂, _∙_, subst}
-use mathlib.Core.Bool.{Bool, true, not, _&&_, and-true}
+use mathlib.Core.Bool.{Bool, _&&_, and-true}
 use mathlib.Core.List.{List, map}
 use Prim.Native.Nat.{ℕ, suc, _+_, _-_, _^_, _≤_, _<_}
 use native.Mathlib.Omega.{arith}
-use borrow.Author.Tests.{le-ltb}
-use lib.Dec.{eqb, ltb}
+use borrow.Author.Tests.{le-leb}
+use lib.Dec.{eqb, leb}
 use lib.ListN.{length}
-use Rattle.gf2.specs.Sets.{has, size, setOf, _∩_, _∖_, _⊆_}
+use Rattle.gf2.specs.Sets.{has, size, _∩_, _∖_, _⊆_}
 use Rattle.gf2.specs.Span.{select}
 use Rattle.gf2.specs.Within.{within}
-use Rattle.gf2.proofs.Tests.{T-ext, and-out, not-out, ltb-in}
+use Rattle.gf2.proofs.Tests.{T-ext, and-out, leb-out}
 use Rattle.gf2.proofs.Subsets.{⊆-out, power-in, power-⊆}
 use Rattle.gf2.proofs.Sizes.{size-lt, size-split}
 use Rattle.gf2.proofs.Sums.{select-in}
-use Rattle.flat.specs.Lists.{range, filter, orderedBy, count}
+use Rattle.flat.specs.Lists.{range, filter, orderedBy}
 use Rattle.flat.specs.Cards.{Code, disks}
 use Rattle.flat.specs.Equations.{parityDisks, bySizeAndParities, equations}
 use Rattle.flat.specs.Spans.{checks, selectors, equationsByParities}
@@ -30,21 +30,22 @@ use Rattle.flat.proofs.Blocks.{ordered-same, ordered-cong}
 use Rattle.minimal_marks.proofs.Keys.{listed-keys}
 use Rattle.minimal_marks.proofs.Entries.{entries-small}
 use Rattle.bases.proofs.Systematic.{checks-systematic}
+use Rattle.equations.specs.Parities.{parities}
 
--- the parity disks, as the call has them: the code's disks that are not below k
-abbrev pub slower : Code → ℕ
-slower C = setOf (disks C) (λ i. not (ltb i (C .k)))
+-- the parity disks as a set
+abbrev pub mask : Code → ℕ
+mask C = parities (C .k) (C .m)
 
 -- how many of them a set holds
-slower-held : (C : Code) (E : ℕ) → size (E ∩ slower C) ≡ parityDisks C E
-unfolding disks parityDisks
-slower-held C E =
+parities-held : (C : Code) (E : ℕ) → size (E ∩ mask C) ≡ parityDisks C E
+unfolding parityDisks
+parities-held C E =
     let z : 0 + parityDisks C E ≡ parityDisks C E = omega arith in
-    size-those (disks C) E (λ i. not (ltb i (C .k))) ∙ count-append (C .k) (C .m) (λ i. has E i && not (ltb i (C .k)))
+    size-those (C .k + C .m) E (leb (C .k)) ∙ count-append (C .k) (C .m) (λ i. has E i && leb (C .k) i)
     ∙ ap₂ _+_
-    (count-none (C .k) (λ i. has E i && not (ltb i (C .k))) (λ i l t. not-out (ltb i (C .k)) (and-out (has E i) (not (ltb i (C .k))) t .1) (ltb-in l)))
-    (count-cong (C .m) (λ j. has E (C .k + j) && not (ltb (C .k + j) (C .k))) (λ j. has E (C .k + j))
-    (λ j l. ap (λ (b : Bool). has E (C .k + j) && not b) (le-ltb (C .k + j) (C .k) (omega arith)) ∙ and-true (has E (C .k + j))))
+    (count-none (C .k) (λ i. has E i && leb (C .k) i) (λ i l t. let h = leb-out (C .k) i (and-out (has E i) (leb (C .k) i) t .1) in omega arith))
+    (count-cong (C .m) (λ j. has E (C .k + j) && leb (C .k) (C .k + j)) (λ j. has E (C .k + j))
+    (λ j l. ap (λ (b : Bool). has E (C .k + j) && b) (le-leb (C .k) (C .k + j) (omega arith)) ∙ and-true (has E (C .k + j))))
     ∙ z
 
 module _ (C : Code) (d : ℕ) where
@@ -77,18 +78,18 @@ module _ (C : Code) (d : ℕ) where
     entries-below = entries-small (disks C) (checks C) (2 ^ d) (checks-systematic C) (omega (arith, checks-length C))
 
     -- so it holds fewer parity disks than there are sizes
-    slower-below : (w : ℕ) → In w (entries (checks C) (2 ^ d)) → size (w ∩ slower C) < sizes
-    slower-below w t = omega (arith, size-split w (slower C), entries-below w t)
+    masked-below : (w : ℕ) → In w (entries (checks C) (2 ^ d)) → size (w ∩ mask C) < sizes
+    masked-below w t = omega (arith, size-split w (mask C), entries-below w t)
 
     abbrev by-parities : List ℕ
     by-parities = orderedBy (parityDisks C) (suc (C .m)) (entries (checks C) (2 ^ d))
 
-    second-key : orderedBy (λ w. size (w ∩ slower C)) sizes (entries (checks C) (2 ^ d)) ≡ by-parities
+    second-key : orderedBy (λ w. size (w ∩ mask C)) sizes (entries (checks C) (2 ^ d)) ≡ by-parities
     unfolding parityDisks
     second-key =
-        ordered-cong (λ w. size (w ∩ slower C)) (parityDisks C) (entries (checks C) (2 ^ d)) (λ w t. slower-held C w) sizes
+        ordered-cong (λ w. size (w ∩ mask C)) (parityDisks C) (entries (checks C) (2 ^ d)) (λ w t. parities-held C w) sizes
         ∙ ordered-same (parityDisks C) (entries (checks C) (2 ^ d)) sizes (suc (C .m))
-        (λ w t. omega (arith, slower-held C w, slower-below w t))
+        (λ w t. omega (arith, parities-held C w, masked-below w t))
         (λ w t. omega (arith, count-le (C .m) (λ j. has w (C .k + j))))
 
     first-key : orderedBy size sizes by-parities ≡ bySizeAndParities C (entries (checks C) (2 ^ d))
@@ -98,8 +99,8 @@ module _ (C : Code) (d : ℕ) where
         λ w t. ordered-out (parityDisks C) (suc (C .m)) w (entries (checks C) (2 ^ d)) t .1 in
         ordered-same size by-parities sizes (suc (disks C)) (λ w t. entries-below w (member w t)) (λ w t. entries-fit w (member w t))
 
-    pub listed-equations : listed (checks C) (2 ^ d) (slower C) ≡ equations C d
+    pub listed-equations : listed (checks C) (2 ^ d) (mask C) ≡ equations C d
     unfolding equationsByParities
     listed-equations =
-        listed-keys (checks C) (2 ^ d) (slower C) slower-below ∙ ap (orderedBy size sizes) second-key ∙ first-key
+        listed-keys (checks C) (2 ^ d) (mask C) masked-below ∙ ap (orderedBy size sizes) second-key ∙ first-key
         ∙ ap (bySizeAndParities C) entries-checks ∙ sym (equations-enumerated C d l)

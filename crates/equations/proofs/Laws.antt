@@ -1,13 +1,20 @@
--- Laws that the functions' proofs cite: the checks can be listed, and the call's report and slice by what the card check found.
+-- Laws that the functions' proofs cite: the parity disks, that the checks can be listed, and the call's report and slice by what the card
+-- check found.
 -- Assumes nothing.
 use mathlib.Core.Path.{_≡_, sym, ap, ap₂, _∙_}
 use mathlib.Core.Bool.{Bool, not}
+use mathlib.Core.Logic.{_⊎_, inl, inr}
 use mathlib.Core.List.{List, []}
 use Prim.Native.Nat.{ℕ, _+_, _≤_, _<_}
 use native.Mathlib.Omega.{arith}
-use borrow.Author.Tests.{lt-ltb, le-ltb}
+use borrow.Author.Tests.{lt-ltb, le-ltb, le-leb, lt-leb}
+use lib.Dec.{leb, ltb}
 use lib.ListN.{length, take}
 use Rattle.gf2.specs.If.{if_then_else_}
+use Rattle.gf2.specs.Sets.{has, first, setOf}
+use Rattle.gf2.proofs.Tests.{below-or}
+use Rattle.gf2.proofs.Made.{set-cong}
+use Rattle.gf2.proofs.Unions.{first-has}
 use Rattle.flat.specs.Cards.{Code, code, codeOf, disks, columnBytes, codeIn}
 use Rattle.flat.specs.Equations.{equations}
 use Rattle.flat.specs.Faults.{Report, refused, unlessRefused, cardReport, listReport, listSlice, equationsTests, equationsReport, equationsSlice}
@@ -20,6 +27,17 @@ use Rattle.card.specs.declared.CardCheck.the-variants.{Bad}
 use Rattle.card.specs.Reports.{faultReport, report as checkReport}
 use Rattle.card.proofs.Laws.{unless-fault}
 use Rattle.card.proofs.Callers.{GoodCard, good-with, bad-card}
+use Rattle.equations.specs.Parities.{parities}
+
+-- those below n that are not the first k
+pub parities-are : (k m n S r : ℕ) → r ≡ setOf n (λ i. not (has S i)) → S ≡ first k → n ≡ k + m → r ≡ parities k m
+parities-are k m n S r e f q =
+    e ∙ ap₂ (λ (a T : ℕ). setOf a (λ i. not (has T i))) q f
+    ∙ set-cong (k + m) (λ i. not (has (first k) i)) (leb k) (λ i l. ap not (first-has k i) ∙ other i (below-or i k))
+  where
+    other : (i : ℕ) → (i < k) ⊎ (k ≤ i) → not (ltb i k) ≡ leb k i
+    other i (inl l) = ap not (lt-ltb i k l) ∙ sym (lt-leb k i l)
+    other i (inr l) = ap not (le-ltb i k l) ∙ sym (le-leb k i l)
 
 pub checks-listable : (k m count : ℕ) (bs out : List ℕ) → k ≤ 16 → m ≤ 16 → count ≡ m → take m out ≡ checks (code k m bs)
     → Listable (k + m) count out

@@ -1,3 +1,4 @@
 pub mod Enumerated
 pub mod Laws
 pub mod Theorems
+pub mod Impostors

@@ -1,2 +1,4 @@
 pub mod Reports
+pub mod Parities
 pub mod Theorems
+pub mod Impostors

@@ -4,16 +4,14 @@
 // Every byte string, disk and slice is a legal argument. What is answered for which input is said in
 // flat/specs/Faults.antt.
 ghost use mathlib.Core.Path.{_≡_};
-ghost use mathlib.Core.Bool.{not};
 ghost use Prim.Native.Nat.{_+_, _≤_, _<_};
-ghost use lib.Dec.{ltb};
 ghost use lib.ListN.{length};
-ghost use Rattle.gf2.specs.Sets.{setOf};
 ghost use Rattle.flat.specs.Cards.{codeIn};
 ghost use Rattle.flat.specs.Equations.{equations};
 ghost use Rattle.flat.specs.Faults.{unlessRefused, listReport, listSlice, equationsReport, equationsSlice};
 ghost use Rattle.card.specs.Columns.{Columns};
 ghost use Rattle.equations.specs.Reports.{report};
+ghost use Rattle.equations.specs.Parities.{parities};
 use card::CardCheck;
 use card::CardFault;
 use minimal_marks::KEYS;
@@ -30,14 +28,14 @@ pub enum Told {
 // The parity disks: those that are left without the data disks.
 fn parities(k: usize, m: usize) -> u32
     requires { ⌜ (1 ≤ k) × (k ≤ 16) × (m ≤ 16) ⌝ }
-    ensures { λ r. ⌜ r ≡ setOf (k + m) (λ i. not (ltb i k)) ⌝ }
+    ensures { λ r. ⌜ r ≡ parities k m ⌝ }
 {
     gf2::survivors(k + m, gf2::first(k as u32))
 }
 
 // The equations of a disk, on the columns of an accepted card: nothing is written before the count is
-// known. They are the minimal words of the checks' span that hold the disk, without it; among those of
-// one size, parity disks count against them.
+// known. They are the minimal words of the checks' span that hold the disk, without it; the mask makes
+// parity disks count against those of one size.
 fn list_columns(columns: &[u8], k: usize, m: usize, disk: usize, out: &mut [u32]) -> Told
     requires { ⌜ Columns k m (now columns) × (disk < k + m) ⌝ }
     ensures { λ r. ⌜ report r ≡ listReport (equations (codeIn k m (now (columns .entry))) disk) (length (now (out .entry))) ⌝ }
@@ -45,14 +43,14 @@ fn list_columns(columns: &[u8], k: usize, m: usize, disk: usize, out: &mut [u32]
 {
     let basis = bases::checks(columns, k, m);
     let set = 1u32 << disk;
-    let slower = parities(k, m);
+    let mask = parities(k, m);
     let mut marks = [0u64; 1024];
-    let places = minimal_lists::starts(minimal_marks::mark(basis, k + m, set, slower, &mut marks));
+    let places = minimal_lists::starts(minimal_marks::mark(basis, k + m, set, mask, &mut marks));
     let count = places[KEYS];
     if out.len() < count {
         return Told::Short(count);
     }
-    minimal_lists::fill(basis, set, slower, &marks, places, out);
+    minimal_lists::fill(basis, set, mask, &marks, places, out);
     Told::Count(count)
 }
 

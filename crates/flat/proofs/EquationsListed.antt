@@ -23,6 +23,7 @@ use Rattle.flat.proofs.Rows.{checks-span, checks-indep, checks-length, 
 use Rattle.flat.proofs.CheckWords.{equation-least, less-lt, no-disk, minimal-word, word-minimal}
 use Rattle.flat.proofs.Members.{In, range-in, range-out, filter-in, filter-out, map-in, map-out, ordered-in, ordered-out}
 use Rattle.flat.proofs.Counts.{count-le}
+use Rattle.flat.proofs.Totals.{ordered-whole}
 use Rattle.flat.proofs.Order.{Sorted, Lex, sorted-from, sorted-range, sorted-filter, sorted-map, sorted-ordered, sorted-unique, lex-asym, lt-asym}
 use Rattle.flat.proofs.Least.{least-inside, selectors-in, selectors-out, selectors-sorted}
 
@@ -42,6 +43,13 @@ module _ (C : Code) where
   unfolding bySizeAndParities
   ranked-out E Es t =
       ordered-out (parityDisks C) (suc (C .m)) E Es (ordered-out size (suc (disks C)) E (orderedBy (parityDisks C) (suc (C .m)) Es) t .1) .1
+
+  ranked-whole : (Es : List ℕ) → ((E : ℕ) → In E Es → E < 2 ^ disks C) → length (bySizeAndParities C Es) ≡ length Es
+  unfolding bySizeAndParities parityDisks
+  ranked-whole Es h =
+      ordered-whole size (suc (disks C)) (orderedBy (parityDisks C) (suc (C .m)) Es)
+      (λ E t. let l = size-lt (disks C) E (h E (ordered-out (parityDisks C) (suc (C .m)) E Es t .1)) in omega arith)
+      ∙ ordered-whole (parityDisks C) (suc (C .m)) Es (λ E t. let l = count-le (C .m) (λ j. has E (C .k + j)) in omega arith)
 
   ranked-sorted : (Es : List ℕ) → Sorted (λ E F. E < F) Es → Sorted (Precedes C) (bySizeAndParities C Es)
   unfolding bySizeAndParities
@@ -80,6 +88,12 @@ module _ (C : Code) (d : ℕ) where
   equations-sorted =
       ranked-sorted C (filter (minimalEquation C d) every-set)
       (sorted-filter (λ E F. E < F) (minimalEquation C d) every-set (sorted-range 0 (2 ^ disks C)))
+
+  pub equations-counted : length (equations C d) ≡ length (filter (minimalEquation C d) every-set)
+  unfolding equations
+  equations-counted =
+      ranked-whole C (filter (minimalEquation C d) every-set)
+      (λ E t. let r = range-out 0 (2 ^ disks C) E (filter-out (minimalEquation C d) E every-set t .1) in omega arith)
 
   pub equations-only : (list : List ℕ) → ((E : ℕ) → In E list ↔ ((E < 2 ^ disks C) × T (minimalEquation C d E)))
       → ((i j : ℕ) → i < j → j < length list → Precedes C (getD list i 0) (getD list j 0)) → list ≡ equations C d

@@ -104,6 +104,9 @@ equations-exact C d E = (equated.equations-out C d E, λ p. equated.equations-in
 pub equations-ordered : Theorems.EquationsOrdered
 equations-ordered C d = sorted-at (Precedes C) (equations C d) (equated.equations-sorted C d)
 
+pub equations-counted : Theorems.EquationsCounted
+equations-counted = equated.equations-counted
+
 pub equations-only : Theorems.EquationsOnly
 equations-only = equated.equations-only
 

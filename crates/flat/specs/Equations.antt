@@ -32,7 +32,7 @@ unfoldable pub bySizeAndParities : Code → List ℕ → List ℕ
 unfolding orderedBy size disks parityDisks
 bySizeAndParities C Es = orderedBy size (suc (disks C)) (orderedBy (parityDisks C) (suc (C .m)) Es)
 
--- all such equations, smaller size first, then fewer parity disks, then smaller set number
+-- all equations of d with no smaller one inside: smaller size first, then fewer parity disks, then smaller set number
 unfoldable pub equations : Code → ℕ → List ℕ
 unfolding bySizeAndParities filter range disks minimalEquation
 equations C d = bySizeAndParities C (filter (minimalEquation C d) (range 0 (2 ^ disks C)))

@@ -9,7 +9,7 @@ use lib.ListN.{length, getD, take}
 use Rattle.gf2.specs.Sets.{has, size, _⊕_, _⊆_, union, over}
 use Rattle.gf2.specs.Span.{InSpan, Independent}
 use Rattle.gf2.specs.Within.{within}
-use Rattle.flat.specs.Lists.{Bytes, sum, member, padded}
+use Rattle.flat.specs.Lists.{Bytes, range, filter, sum, member, padded}
 use Rattle.flat.specs.Cards.{Code, code, codeOf, disks, column, dataPart}
 use Rattle.flat.specs.Erasures.{holdsBit, survivors, fatal, undetermined, undeterminedSet, determinedSet, minimalErasure, erasures, vector}
 use Rattle.flat.specs.Equations.{equation, minimalEquation, equations, Precedes}
@@ -161,6 +161,10 @@ EquationsExact = (C : Code) (d E : ℕ) → T (member E (equations C d)) ↔ ((E
 abbrev pub EquationsOrdered : Type 0
 EquationsOrdered =
     (C : Code) (d i j : ℕ) → i < j → j < length (equations C d) → Precedes C (getD (equations C d) i 0) (getD (equations C d) j 0)
+
+-- The order changes no count: there are as many as sets with no smaller equation inside.
+abbrev pub EquationsCounted : Type 0
+EquationsCounted = (C : Code) (d : ℕ) → length (equations C d) ≡ length (filter (minimalEquation C d) (range 0 (2 ^ disks C)))
 
 -- No other list has these members in this order.
 abbrev pub EquationsOnly : Type 0

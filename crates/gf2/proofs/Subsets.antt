@@ -215,6 +215,21 @@ trailing-at (suc k) S f h = go (λ g. trailing-at k (S / 2) g (half-lt k S h)) (
     go ih (inl e) = let p = ih (half-nonzero S f e) in rw e (bit-suc S (trailingZeros k (S / 2)) ∙ p .0, omega arith)
     go ih (inr e) = rw e (bit-low S ∙ e, omega arith)
 
+trailing-least : (k S j : ℕ) → S ≢ 0 → S < 2 ^ k → j < trailingZeros k S → bit S j ≡ 0
+unfolding trailingZeros
+trailing-least zero S j f h l = absurd (f (omega arith))
+trailing-least (suc k) S j f h l = go j (λ i g. trailing-least k (S / 2) i g (half-lt k S h)) (two-cases (S % 2) (mod-lt S (zero-lt-suc 1))) l
+  where
+    go : (j : ℕ) → ((i : ℕ) → S / 2 ≢ 0 → i < trailingZeros k (S / 2) → bit (S / 2) i ≡ 0) → (S % 2 ≡ 0) ⊎ (S % 2 ≡ 1)
+        → j < trailingZeros (suc k) S → bit S j ≡ 0
+    go zero ih (inl e) m = bit-low S ∙ e
+    go (suc i) ih (inl e) m = bit-suc S i ∙ ih i (half-nonzero S f e) (let n = rw e at m in omega arith)
+    go j ih (inr e) m = absurd (let n = rw e at m in omega arith)
+
+pub lowest-least : (S j : ℕ) → S ≢ 0 → j < lowest S → T (has S j) → ⊥
+unfolding lowest
+lowest-least S j f l = not-has S j (trailing-least S S j f (lt-pow S) l)
+
 pub lowest-has : (S : ℕ) → S ≢ 0 → T (has S (lowest S))
 unfolding lowest
 lowest-has S f = has-in S (lowest S) (trailing-at S S f (lt-pow S) .0)

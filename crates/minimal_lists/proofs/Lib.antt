@@ -1,2 +1,3 @@
+pub mod Words
 pub mod Placing
 pub mod Filling

@@ -6,16 +6,12 @@ use Rattle.flat.specs.Cards.{cardBytes}
 use Rattle.flat.specs.Erasures.{fatal, erasures, vector}
 use Rattle.flat.specs.Equations.{equations}
 use Rattle.flat.specs.Faults.{cardReport, encodeStripe, erasuresReport}
-use Rattle.worked.specs.Worked.{Worked, Ordered, AnyBytes}
+use Rattle.worked.specs.Worked.{Worked, AnyBytes}
 use Rattle.worked.proofs.Stripes.{c8-answer, c8-stripe, c9, c10}
 
 pub any-bytes : AnyBytes
 unfolding encodeStripe cardBytes
 any-bytes = record { parity = λ p q r. refl; lost = λ a b c. (c8-answer a b c, c8-stripe a b c) }
-
-pub ordered : Ordered
-unfolding equations
-ordered = record { fewer = refl; smaller = refl }
 
 pub worked : Worked
 unfolding erasures vector fatal member equations cardBytes encodeStripe cardReport erasuresReport

@@ -4,7 +4,7 @@
 use mathlib.Core.Path.{_≡_}
 use mathlib.Core.Bool.{Bool, true, false, not, _&&_}
 use mathlib.Core.Logic.{_≢_}
-use mathlib.Core.List.{List, [], _∷_, map, reverse}
+use mathlib.Core.List.{List, [], _∷_, map}
 use Prim.Native.Nat.{ℕ, suc, _-_, _^_}
 use lib.Dec.{eqb, ltb, leb}
 use lib.ListN.{length, getD}
@@ -14,11 +14,11 @@ use Rattle.gf2.specs.Span.{select}
 use Rattle.flat.specs.Lists.{some, every, range, filter, orderedBy, member}
 use Rattle.flat.specs.Cards.{Code, disks, dataPart, cardBytes}
 use Rattle.flat.specs.Erasures.{holdsBit, agreeOutside, fatal, minimalErasure, erasures}
-use Rattle.flat.specs.Equations.{equation, parityDisks, bySizeAndParities, equations}
+use Rattle.flat.specs.Equations.{equation}
 use Rattle.flat.specs.Faults.{Report, accepted, refused, erasuresReport, rebuildReport}
 use Rattle.flat.specs.Checks.{check}
 use Rattle.flat.specs.Spans.{rows}
-use Rattle.worked.specs.Table.{Equated, C1, C2, C3, C4, C6, C8, Fewer, Smaller}
+use Rattle.worked.specs.Table.{C1, C3, C4, C6, C8}
 
 -- ---- what is fatal
 
@@ -85,13 +85,12 @@ TenIsCounted = (tenUncounted (C3 .of) 2 ≡ refused 10 (3 ∷ [])) × (erasuresR
 -- ---- in which order
 
 -- entries of one size by set number: C1 would begin with 14
-unfoldable pub bySetNumber : Code → List ℕ → List ℕ
-unfolding orderedBy size disks
-bySetNumber C Ss = orderedBy size (suc (disks C)) (orderedBy (λ S. S) (2 ^ disks C) Ss)
+unfoldable pub bySetNumber : Code → List ℕ
+unfolding orderedBy size disks erasures
+bySetNumber C = orderedBy size (suc (disks C)) (orderedBy (λ S. S) (2 ^ disks C) (erasures C))
 
 abbrev pub NotBySetNumber : Type 0
-NotBySetNumber =
-    (getD (bySetNumber (C1 .of) (erasures (C1 .of))) 0 0 ≡ 14) × (erasures (C1 .of) ≢ bySetNumber (C1 .of) (erasures (C1 .of)))
+NotBySetNumber = (getD (bySetNumber (C1 .of)) 0 0 ≡ 14) × (erasures (C1 .of) ≢ bySetNumber (C1 .of))
 
 -- by data part alone: C6's 5 would come before 2
 unfoldable pub byDataPart : Code → List ℕ
@@ -100,40 +99,6 @@ byDataPart C = orderedBy (dataPart C) (2 ^ C .k) (erasures C)
 
 abbrev pub SizeFirst : Type 0
 SizeFirst = (byDataPart (C6 .of) ≡ 5 ∷ 2 ∷ []) × (erasures (C6 .of) ≢ byDataPart (C6 .of))
-
--- the list of a row, and the same entries in another order
-abbrev pub told : Equated → List ℕ
-told C = equations (C .of) (C .disk)
-
-abbrev pub toldBy : (Code → List ℕ → List ℕ) → Equated → List ℕ
-toldBy order C = order (C .of) (told C)
-
--- document 01's order, by size and then by set number: 56 would come before 73, where C2 is the same
-abbrev pub SlowerLast : Type 0
-SlowerLast = (toldBy bySetNumber C2 ≡ told C2) × (toldBy bySetNumber Fewer ≡ 19 ∷ 56 ∷ 73 ∷ 98 ∷ []) × (told Fewer ≢ toldBy bySetNumber Fewer)
-
--- more parity disks first: 112 would be C2's first
-unfoldable pub byMoreParities : Code → List ℕ → List ℕ
-unfolding orderedBy size disks parityDisks
-byMoreParities C Es = orderedBy size (suc (disks C)) (orderedBy (λ E. C .m - parityDisks C E) (suc (C .m)) Es)
-
-abbrev pub FewerFirst : Type 0
-FewerFirst = (toldBy byMoreParities C2 ≡ 112 ∷ 22 ∷ 42 ∷ 76 ∷ []) × (told C2 ≢ toldBy byMoreParities C2)
-
--- parity disks before size: 14 would come before 24, which is smaller
-unfoldable pub byParitiesAndSize : Code → List ℕ → List ℕ
-unfolding orderedBy size disks parityDisks
-byParitiesAndSize C Es = orderedBy (parityDisks C) (suc (C .m)) (orderedBy size (suc (disks C)) Es)
-
-abbrev pub SmallerFirst : Type 0
-SmallerFirst = (toldBy byParitiesAndSize Smaller ≡ 14 ∷ 24 ∷ []) × (told Smaller ≢ toldBy byParitiesAndSize Smaller)
-
--- larger set number first, where the rest is equal: 76 would be C2's first
-abbrev pub byLargerNumber : Code → List ℕ → List ℕ
-byLargerNumber C Es = bySizeAndParities C (reverse Es)
-
-abbrev pub OrderNotTurned : Type 0
-OrderNotTurned = (toldBy byLargerNumber C2 ≡ 76 ∷ 42 ∷ 22 ∷ 112 ∷ []) × (told C2 ≢ toldBy byLargerNumber C2)
 
 -- ---- what is an equation
 

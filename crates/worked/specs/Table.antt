@@ -1,5 +1,5 @@
 -- Document 01, "Worked codes": the table of constants, a row for each of C1 to C12 with what goes in and what has to come out.
--- The vectors are those of document 02, request [2], and the equations are in the order of request [6].
+-- The vectors are those of document 02, request [2].
 -- Assumes nothing.
 use mathlib.Core.List.{List, [], _∷_}
 use Prim.Native.Nat.{ℕ}
@@ -125,13 +125,3 @@ abbrev pub C12 : List Lent
 C12 =
     record { of = C3 .of; entries = 1; answer = refused 10 (2 ∷ []) }
     ∷ record { of = C3 .of; entries = 2; answer = accepted (2 ∷ []) } ∷ []
-
--- ---- additions to C2, for the order of document 02, request [6]
-
--- 73 has one parity disk, 56 two
-abbrev pub Fewer : Equated
-Fewer = record { of = C1 .of; disk = 2; list = 19 ∷ 73 ∷ 56 ∷ 98 ∷ [] }
-
--- 24 has two parity disks, 14 one, and is larger
-abbrev pub Smaller : Equated
-Smaller = record { of = code 3 2 (7 ∷ 6 ∷ []); disk = 0; list = 24 ∷ 14 ∷ [] }

@@ -10,7 +10,7 @@ use Rattle.flat.specs.Cards.{cardBytes}
 use Rattle.flat.specs.Erasures.{fatal, erasures, vector}
 use Rattle.flat.specs.Equations.{equations}
 use Rattle.flat.specs.Faults.{cardReport, encodeStripe, erasuresReport, rebuildReport, rebuildStripe}
-use Rattle.worked.specs.Table.{Listed, Equated, Encoded, Rebuilt, Read, Lent, C1, C2, C3, C4, C5, C6, C7, C8, C9, C10, C11, C12, Fewer, Smaller}
+use Rattle.worked.specs.Table.{Listed, Equated, Encoded, Rebuilt, Read, Lent, C1, C2, C3, C4, C5, C6, C7, C8, C9, C10, C11, C12}
 
 -- ---- a row holds where the definitions give what it expects
 
@@ -56,12 +56,6 @@ pub record Worked : Type 0 where
   pub c10 : Rebuilds C10
   pub c11 : Each Reads C11
   pub c12 : Each Fits C12
-
--- ---- additions to C2
-
-pub record Ordered : Type 0 where
-  pub fewer : Equates Fewer
-  pub smaller : Equates Smaller
 
 -- ---- an addition to C7 and C8
 

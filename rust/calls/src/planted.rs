@@ -193,7 +193,7 @@ fn one_less(engine: Engine, input: &Input, lent: &mut Lent, entries: u64, more_t
     }
 }
 
-/// The lister, and something done to its slice where it is accepted.
+/// A call that lists, and something done to its slice where it is accepted.
 fn listed(engine: Engine, input: &Input, lent: &mut Lent, change: impl FnOnce(&mut [u32], usize)) -> u64 {
     after(engine, input, lent, 0, |lent, count| {
         let bytes = lent.written(0);

@@ -66,10 +66,10 @@ fn not_alike_by_the_last_number_alone() {
     worked("alike", Input { card, second, ..Input::default() }, 0, Vec::new());
 }
 
-/// C2, and what tells the order of document 02, request [6]: of C1's disk 2, 56 has two parity disks and 73 one; the smaller of two
-/// equations comes first though it has two parity disks and the other one.
+/// C2, and what tells the order of document 02, request [6]: of C1's disk 2, 73 has one parity disk and 56 two; of two parity disks that hold
+/// the same, the other one alone comes before the two data disks.
 #[test]
-fn c2_equations() {
+fn equations_in_order() {
     let told = |k, columns: &[u16], disk, list: &[u32]| {
         let card = card_of(k, columns.len(), columns);
         let answer = 256 * list.len() as u64;
@@ -82,7 +82,7 @@ fn c2_equations() {
     };
     told(4, &[7, 11, 13], 0, &[22, 42, 76, 112]);
     told(4, &[7, 11, 13], 2, &[19, 73, 56, 98]);
-    told(3, &[7, 6], 0, &[24, 14]);
+    told(2, &[3, 3], 2, &[8, 3]);
 }
 
 #[test]
