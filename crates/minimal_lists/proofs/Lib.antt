@@ -1,3 +1,4 @@
 pub mod Words
+pub mod Looking
 pub mod Placing
 pub mod Filling
