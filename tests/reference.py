@@ -1,6 +1,6 @@
 #!/usr/bin/env python3
 """The listing of a card, the equations of a disk and the undetermined disks of a loss by brute force, straight from the definitions of document
-01 and, for the vector's length and the undetermined disks, of document 02.
+01 and, for the vector's length, the undetermined disks and the order of equations, of document 02.
 
 It shares nothing with the engine: sets are tried one by one, and data words are compared on each disk. It is meant for
 codes of some 12 disks at the most; the undetermined disks of one loss are found for any code.

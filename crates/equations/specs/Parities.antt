@@ -1,4 +1,4 @@
--- The parity disks of a code as a set.
+-- The parity disks of a code as a set. No public contract names it: how many of them a set holds is `parityDisks`, by a law of the proofs.
 -- Assumes nothing.
 use Prim.Native.Nat.{ℕ, _+_}
 use lib.Dec.{leb}

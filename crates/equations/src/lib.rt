@@ -34,8 +34,8 @@ fn parities(k: usize, m: usize) -> u32
 }
 
 // The equations of a disk, on the columns of an accepted card: nothing is written before the count is
-// known. They are the minimal words of the checks' span that hold the disk, without it; the mask makes
-// parity disks count against those of one size.
+// known. They are the minimal words of the checks' span that hold the disk, without it; among those of
+// one size the mask puts fewer parity disks first.
 fn list_columns(columns: &[u8], k: usize, m: usize, disk: usize, out: &mut [u32]) -> Told
     requires { ⌜ Columns k m (now columns) × (disk < k + m) ⌝ }
     ensures { λ r. ⌜ report r ≡ listReport (equations (codeIn k m (now (columns .entry))) disk) (length (now (out .entry))) ⌝ }

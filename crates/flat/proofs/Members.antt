@@ -38,13 +38,13 @@ in-at [] i l = absurd (omega arith)
 in-at (x ∷ xs) zero l = in-head xs refl
 in-at (x ∷ xs) (suc i) l = in-tail (getD xs i 0) x xs (in-at xs i (omega arith))
 
--- ---- joined lists
-
 -- a member stands at some place
 pub in-place : (x : ℕ) (xs : List ℕ) → In x xs → (i : ℕ) × (i < length xs) × (getD xs i 0 ≡ x)
 in-place x [] t = absurd (in-nil x t)
 in-place x (y ∷ ys) t =
     ⊎-elim (λ e. (0, omega arith, sym e)) (λ u. let p = in-place x ys u in (suc (p .0), let l = p .1 in omega arith, p .2)) (in-cons x y ys t)
+
+-- ---- joined lists
 
 pub in-left : (x : ℕ) (xs ys : List ℕ) → In x xs → In x (xs ++ ys)
 in-left x [] ys t = absurd (in-nil x t)

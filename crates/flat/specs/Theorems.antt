@@ -162,7 +162,7 @@ abbrev pub EquationsOrdered : Type 0
 EquationsOrdered =
     (C : Code) (d i j : ℕ) → i < j → j < length (equations C d) → Precedes C (getD (equations C d) i 0) (getD (equations C d) j 0)
 
--- The order changes no count: there are as many as sets with no smaller equation inside.
+-- The order changes no count: there are as many as equations of the disk with no smaller one inside.
 abbrev pub EquationsCounted : Type 0
 EquationsCounted = (C : Code) (d : ℕ) → length (equations C d) ≡ length (filter (minimalEquation C d) (range 0 (2 ^ disks C)))
 

@@ -9,7 +9,7 @@ use native.Mathlib.Omega.{arith}
 use lib.Bits.{and-comm, and-le-r, and-zero-r, xor-disjoint}
 use lib.Count.{trailingZeros}
 use lib.Dec.{T, eqb}
-use lib.Pow.{pow-mono}
+use lib.Pow.{pow-mono, pow-pos}
 use Rattle.gf2.specs.Sets.{bit, has, _∩_, _⊕_, _∖_, _⊆_, _⊂_}
 use Rattle.gf2.specs.Within.{lowest}
 use Rattle.gf2.proofs.Tests.{dec, below-or, and-in, and-out, eqb-in, eqb-out, neqb-in, neqb-out, T-ext}
@@ -237,6 +237,11 @@ lowest-has S f = has-in S (lowest S) (trailing-at S S f (lt-pow S) .0)
 pub lowest-trailing : (k S : ℕ) → S ≢ 0 → S < 2 ^ k → trailingZeros k S ≡ lowest S
 unfolding lowest
 lowest-trailing k S f h = trailing-same k S S f h (lt-pow S)
+
+-- without it the set is a smaller number
+pub lowest-less : (S d rest : ℕ) → S ≢ 0 → d ≡ lowest S → rest ≡ S ∖ 2 ^ d → rest < S
+lowest-less S d rest f e q =
+    omega (arith, q, less-add S d (subst (λ (j : ℕ). T (has S j)) (sym e) (lowest-has S f)), pow-pos d)
 
 pub lowest-lt : (k S : ℕ) → S ≢ 0 → S < 2 ^ k → lowest S < k
 lowest-lt k S f h = subst (λ (x : ℕ). x < k) (lowest-trailing k S f h) (trailing-at k S f h .1)

@@ -11,14 +11,14 @@ use borrow.Author.Tests.{eq-eqb, ne-eqb}
 use lib.Bits.{bitXor}
 use lib.Dec.{T, eqb}
 use lib.ListN.{length, getD, take, length-map}
-use lib.Pow.{pow-pos, shl-exact}
+use lib.Pow.{shl-exact}
 use Rattle.gf2.specs.If.{if_then_else_}
 use Rattle.gf2.specs.Sets.{bit, has, _⊕_, _∖_, _⊆_}
 use Rattle.gf2.specs.Span.{InSpan, Independent, select}
 use Rattle.gf2.specs.Within.{lowest, clear, within}
 use Rattle.gf2.proofs.Bits.{bit-lt, bit-cases, bit-of-zero, bit-⊕, has-one, has-zero}
 use Rattle.gf2.proofs.Xor.{⊕-comm, ⊕-self, zero-⊕, ⊕-zero, ⊕-back, ⊕-cancel, ⊕-four}
-use Rattle.gf2.proofs.Subsets.{⊆-refl, ⊕-⊆, less-⊕, less-add, lowest-has}
+use Rattle.gf2.proofs.Subsets.{⊆-refl, ⊕-⊆, less-⊕, lowest-has, lowest-less}
 use Rattle.gf2.proofs.Spans.{at}
 use Rattle.gf2.proofs.Elimination.{cleared-indep, within-nil, within-kept, within-dropped, dropped-has, within-spans}
 use Rattle.minimal_words.specs.Systematic.{Systematic}
@@ -124,10 +124,7 @@ unfolding _⊕_
 next-is left i e l = rw (shl-exact {a = 1} 1 i 32 (omega arith) (omega arith), one-mul (2 ^ i), e)
 
 pub next-lt : (left : ℕ) → left ≢ 0 → left ⊕ 2 ^ lowest left < left
-next-lt left f =
-    let m = lowest-has left f in
-    let p = pow-pos (lowest left) in
-    subst (λ (y : ℕ). y < left) (less-⊕ left (lowest left) m) (omega (arith, less-add left (lowest left) m))
+next-lt left f = lowest-less left (lowest left) (left ⊕ 2 ^ lowest left) f refl (sym (less-⊕ left (lowest left) (lowest-has left f)))
 
 module _ (w left : ℕ) (start rows : List ℕ) (f : left ≢ 0) (h : left < 2 ^ length rows) (g : Going w start (picked rows left)) where
   first : Going w start (getD rows (lowest left) 0 ∷ picked rows (left ⊕ 2 ^ lowest left))

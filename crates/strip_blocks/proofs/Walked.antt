@@ -1,18 +1,16 @@
 -- From one disk of a set to the next: what the loops keep that XOR strips together so.
 -- Assumes nothing.
-use mathlib.Core.Path.{_≡_, ap, _∙_}
+use mathlib.Core.Path.{_≡_, refl, ap, _∙_}
 use mathlib.Core.Logic.{_≢_}
 use mathlib.Core.List.{List}
 use Prim.Native.Nat.{ℕ, _+_, _*_, _%_, _^_, _<_}
 use native.Mathlib.Nat.{add-assoc}
-use native.Mathlib.Omega.{arith}
 use lib.Dec.{T, eqb}
 use lib.ListN.{getD, replicate}
-use lib.Pow.{pow-pos}
 use Rattle.gf2.specs.Sets.{has, _⊕_, _∖_, over}
 use Rattle.gf2.specs.Within.{lowest}
 use Rattle.gf2.proofs.Bits.{bit-mod}
-use Rattle.gf2.proofs.Subsets.{less-add, lowest-has, lowest-lt}
+use Rattle.gf2.proofs.Subsets.{lowest-has, lowest-less, lowest-lt}
 use Rattle.gf2.proofs.Xor.{⊕-assoc, ⊕-self, ⊕-zero}
 use Rattle.gf2.proofs.Sums.{over-none, over-set, over-without}
 use Rattle.flat.specs.Lists.{tabulate}
@@ -32,7 +30,7 @@ next-lowest n left i f h e =
     (record {
       below = lowest-lt n left f h;
       inside = lowest-has left f;
-      less = let p : 0 < 2 ^ lowest left = pow-pos (lowest left) in omega (arith, less-add left (lowest left) (lowest-has left f));
+      less = lowest-less left (lowest left) (left ∖ 2 ^ lowest left) f refl refl;
     })
 
 -- the XOR of what the disks hold that have gone by, where some are left

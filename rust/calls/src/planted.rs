@@ -83,7 +83,7 @@ const PLANTED: [Planted; 41] = [
     Archive("equations", |input, lent| one_less(sets::EQUATIONS.engine, input, lent, 3, 0)),
     // the last entry is none, in codes of more than 8 disks and 10 entries
     Archive("equations", |input, lent| one_less(sets::EQUATIONS.engine, input, lent, 10, 8)),
-    // entries of one size by set number
+    // document 01's order: equations of one size by set number
     Archive("equations", |input, lent| listed(sets::EQUATIONS.engine, input, lent, |out, count| out[..count].sort_by_key(|set| (set.count_ones(), *set)))),
     // entries with fewer parity disks before smaller ones
     Archive("equations", |input, lent| listed(sets::EQUATIONS.engine, input, lent, |out, count| {

@@ -1,4 +1,4 @@
-//! Document 01's definitions by plain methods that share nothing with the engine.
+//! Document 01's definitions, with document 02's order of equations, by plain methods that share nothing with the engine.
 use crate::codes::{size, Code};
 
 /// What the disks hold for a data word: bit i is what disk i holds.

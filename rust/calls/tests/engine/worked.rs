@@ -1,5 +1,5 @@
-//! Document 01's worked codes, C1 to C12, verdicts, partial rebuilds, quick repairs and updates of document 02 and a record by hand: of the
-//! reference, and of the engine beside it.
+//! Document 01's worked codes, C1 to C12, verdicts, equations in order, partial rebuilds, quick repairs and updates of document 02 and a record
+//! by hand: of the reference, and of the engine beside it.
 
 use bridgecrumb::Error;
 use calls::cards::{card_of, card_of_size};
