@@ -179,9 +179,12 @@ pub has-if : (S i : ℕ) (b : Bool) → bit S i ≡ (if b then 1 else 0) → has
 has-if S i true e = has-one S i e
 has-if S i false e = has-zero S i e
 
--- the power of two that the code's shift of 1 gives
+-- the power of two that the code's shift of 1 gives, in numbers of any width and of 32 bits
+pub one-shifted-in : (w k : ℕ) → k < w → (1 * 2 ^ k) % 2 ^ w ≡ 2 ^ k
+one-shifted-in w k h = shl-exact 1 k w (lit< tt) (omega arith) ∙ one-mul (2 ^ k)
+
 pub one-shifted : (k : ℕ) → k < 32 → (1 * 2 ^ k) % 2 ^ 32 ≡ 2 ^ k
-one-shifted k h = shl-exact 1 k 32 (lit< tt) (omega arith) ∙ one-mul (2 ^ k)
+one-shifted = one-shifted-in 32
 
 -- the test of the code
 pub bit-test : (S i : ℕ) → eqb (bitAnd (S / 2 ^ i) 1) 1 ≡ has S i

@@ -5,18 +5,16 @@ use mathlib.Core.Bool.{Bool, true, false}
 use mathlib.Core.Logic.{_⊎_, inl, inr, _≢_}
 use mathlib.Core.List.{List, [], _∷_, map}
 use Prim.Native.Nat.{ℕ, suc, _+_, _*_, _%_, _^_, _<_}
-use native.Mathlib.Nat.{one-mul}
 use native.Mathlib.Omega.{arith}
 use borrow.Author.Tests.{eq-eqb, ne-eqb}
 use lib.Bits.{bitXor}
 use lib.Dec.{T, eqb}
 use lib.ListN.{length, getD, take, length-map}
-use lib.Pow.{shl-exact}
 use Rattle.gf2.specs.If.{if_then_else_}
 use Rattle.gf2.specs.Sets.{bit, has, _⊕_, _∖_, _⊆_}
 use Rattle.gf2.specs.Span.{InSpan, Independent, select}
 use Rattle.gf2.specs.Within.{lowest, clear, within}
-use Rattle.gf2.proofs.Bits.{bit-lt, bit-cases, bit-of-zero, bit-⊕, has-one, has-zero}
+use Rattle.gf2.proofs.Bits.{bit-lt, bit-cases, bit-of-zero, bit-⊕, has-one, has-zero, one-shifted}
 use Rattle.gf2.proofs.Xor.{⊕-comm, ⊕-self, zero-⊕, ⊕-zero, ⊕-back, ⊕-cancel, ⊕-four}
 use Rattle.gf2.proofs.Subsets.{⊆-refl, ⊕-⊆, less-⊕, lowest-has, lowest-less}
 use Rattle.gf2.proofs.Spans.{at}
@@ -121,7 +119,7 @@ going-last w b start g =
 -- the bits that are left after the lowest
 pub next-is : (left i : ℕ) → i ≡ lowest left → i < 32 → bitXor left (1 * 2 ^ i % 2 ^ 32) ≡ left ⊕ 2 ^ lowest left
 unfolding _⊕_
-next-is left i e l = rw (shl-exact {a = 1} 1 i 32 (omega arith) (omega arith), one-mul (2 ^ i), e)
+next-is left i e l = rw (one-shifted i l, e)
 
 pub next-lt : (left : ℕ) → left ≢ 0 → left ⊕ 2 ^ lowest left < left
 next-lt left f = lowest-less left (lowest left) (left ⊕ 2 ^ lowest left) f refl (sym (less-⊕ left (lowest left) (lowest-has left f)))
