@@ -48,6 +48,12 @@ none-bad k (c ∷ cs) h j l = go (columnOk k c) refl h j l (none-bad k cs)
     go true e h (suc j) l rest = rest (omega arith) j (omega arith)
     go false e h j l rest = absurd (omega arith)
 
+-- and the other way round
+pub all-good : (k : ℕ) (cs : List ℕ) → ((j : ℕ) → j < length cs → columnOk k (getD cs j 0) ≡ true) → firstBad k cs ≡ length cs
+unfolding firstBad
+all-good k [] h = refl
+all-good k (c ∷ cs) h = rw (h 0 (omega arith)) (ap suc (all-good k cs (λ j l. h (suc j) (omega arith))))
+
 -- ---- columns in bytes
 
 pub length-columns : (m : ℕ) (bs : List ℕ) → length (columnsIn m bs) ≡ m

@@ -1,17 +1,20 @@
--- How many numbers below a bound have a property, and how many disks a set made by a test holds.
+-- How many numbers below a bound have a property, and how many disks a set holds: one made by a test, and an XOR of sets of odd size.
 -- Assumes nothing.
 use mathlib.Core.Path.{_≡_, refl, sym, ap, ap₂, _∙_}
 use mathlib.Core.Bool.{Bool, true, false, _&&_}
 use mathlib.Core.Logic.{_⊎_, inl, inr, ⊎-elim}
-use Prim.Native.Nat.{ℕ, zero, suc, _+_, _*_, _^_, _≤_, _<_}
+use Prim.Native.Nat.{ℕ, zero, suc, _+_, _*_, _%_, _^_, _≤_, _<_}
 use native.Mathlib.Nat.{le-refl, add-zero}
 use native.Mathlib.Omega.{arith}
 use lib.Count.{ones, ones-cat}
 use lib.Dec.{T, eqb}
 use Rattle.gf2.specs.If.{if_then_else_}
-use Rattle.gf2.specs.Sets.{has, size, _∩_}
+use Rattle.gf2.specs.Sets.{has, size, _∩_, _⊕_, over}
 use Rattle.gf2.proofs.Tests.{T-ext, and-in, and-out, eqb-in, eqb-out, below-suc, if-true, if-false}
+use Rattle.gf2.proofs.Xor.{⊕-zero}
 use Rattle.gf2.proofs.Subsets.{∩-in, ∩-out, same-disks}
+use Rattle.gf2.proofs.Sizes.{size-zero, size-⊕}
+use Rattle.gf2.proofs.Made.{set-is}
 use Rattle.flat.specs.Lists.{count, setOf}
 use Rattle.flat.proofs.Quantifiers.{set-lt, set-in, set-out}
 
@@ -75,7 +78,7 @@ count-one (suc n) d l = go (below-suc d n l) (count-one n d)
 -- ---- how many disks a set holds
 
 -- one more disk above a set
-size-above : (n S : ℕ) (b : Bool) → S < 2 ^ n → size (S + (if b then 2 ^ n else 0)) ≡ size S + (if b then 1 else 0)
+pub size-above : (n S : ℕ) (b : Bool) → S < 2 ^ n → size (S + (if b then 2 ^ n else 0)) ≡ size S + (if b then 1 else 0)
 unfolding size
 size-above n S true l =
     let e : S + 2 ^ n ≡ 1 * 2 ^ n + S = omega arith in
@@ -104,3 +107,18 @@ size-those n S p =
     let r = and-out (has S i) (p i) (q .1) in
     ∩-in S (setOf n p) i (r .0) (set-in n p i (q .0) (r .1)))))
     ∙ size-set n (λ i. has S i && p i)
+
+-- a set below 2 ^ n, counted disk by disk
+pub size-count : (n S : ℕ) → S < 2 ^ n → size S ≡ count n (has S)
+size-count n S l = ap size (sym (set-is n S (has S) l (λ i h. refl))) ∙ size-set n (has S)
+
+-- an XOR of sets of odd size has an odd size where an odd number of sets is XORed
+pub over-odd : (n S : ℕ) (f : ℕ → ℕ) → ((i : ℕ) → i < n → size (f i) % 2 ≡ 1) → size (over n S f) % 2 ≡ count n (has S) % 2
+unfolding over count
+over-odd zero S f h = ap (λ (x : ℕ). x % 2) size-zero
+over-odd (suc n) S f h = go (has S n) (over-odd n S f (λ i l. h i (omega arith))) (h n (omega arith))
+  where
+    go : (b : Bool) → size (over n S f) % 2 ≡ count n (has S) % 2 → size (f n) % 2 ≡ 1
+        → size (over n S f ⊕ (if b then f n else 0)) % 2 ≡ (count n (has S) + (if b then 1 else 0)) % 2
+    go true e o = omega (arith, size-⊕ (over n S f) (f n))
+    go false e o = omega (arith, ap size (⊕-zero (over n S f)))

@@ -1,6 +1,6 @@
 -- How many disks a set holds, and how many rows `within` must leave: one for each disk outside the set at most is dropped.
 -- Assumes nothing.
-use mathlib.Core.Path.{_≡_, sym, ap, ap₂, _∙_, subst}
+use mathlib.Core.Path.{_≡_, refl, sym, ap, ap₂, _∙_, subst}
 use mathlib.Core.Logic.{_⊎_, inl, inr, ⊎-elim}
 use mathlib.Core.List.{List, [], _∷_, map}
 use Prim.Native.Nat.{ℕ, _+_, _-_, _*_, _/_, _%_, _^_, _≤_, _<_}
@@ -16,7 +16,7 @@ use Rattle.gf2.specs.Sets.{bit, has, size, _∩_, _⊕_, _∖_, _⊆_}
 use Rattle.gf2.specs.Span.{InSpan}
 use Rattle.gf2.specs.Within.{lowest, clear, within}
 use Rattle.gf2.proofs.Tests.{dec, eqb-in, eqb-out}
-use Rattle.gf2.proofs.Bits.{bit-low, bit-cases, bit-⊕, bit-∩, not-has}
+use Rattle.gf2.proofs.Bits.{bit-lt, bit-low, bit-cases, by-digits, bit-⊕, bit-∩, not-has}
 use Rattle.gf2.proofs.Xor.{zero-⊕}
 use Rattle.gf2.proofs.Subsets.{⊆-in, ⊆-out, ⊕-out, ∩-out, zero-⊆, ⊆-zero, ∖-in, ∖-out, less-⊆, ⊆-none, none-⊆, power-out, power-⊆, less-back, lowest-has}
 use Rattle.gf2.proofs.Spans.{first-in}
@@ -27,6 +27,10 @@ use Rattle.gf2.proofs.Elimination.{clear-is, clear-out, dropped-has, by
 pub size-lt : (n S : ℕ) → S < 2 ^ n → size S ≤ n
 unfolding size
 size-lt n S l = ones-le n S l
+
+pub size-zero : size 0 ≡ 0
+unfolding size
+size-zero = ones-ones 0
 
 pub size-power : (d : ℕ) → size (2 ^ d) ≡ 1
 unfolding size
@@ -76,6 +80,34 @@ size-less S d m =
     let e : S ∩ 2 ^ d ≡ 2 ^ d = and-comm S (2 ^ d) ∙ eqb-out (2 ^ d ∩ S) (2 ^ d) (power-⊆ d S m) in
     ap (λ (x : ℕ). size (S ∖ 2 ^ d) + x) (sym (size-power d) ∙ ap size (sym e)) ∙ size-split S (2 ^ d)
 
+-- a set inside another
+pub size-⊆ : (R S : ℕ) → T (R ⊆ S) → size R ≤ size S
+unfolding _⊆_ _∩_
+size-⊆ R S t =
+    let e : S ∩ R ≡ R = and-comm S R ∙ eqb-out (R ∩ S) R t in
+    omega (arith, size-split S R, ap size e)
+
+-- an XOR: what both hold is in neither
+low-⊕ : (R S : ℕ) → (R ⊕ S) % 2 + 2 * ((R ∩ S) % 2) ≡ R % 2 + S % 2
+low-⊕ R S =
+    ap₂ (λ (x y : ℕ). x + 2 * y) (sym (bit-low (R ⊕ S)) ∙ bit-⊕ R S 0) (sym (bit-low (R ∩ S)) ∙ bit-∩ R S 0)
+    ∙ by-digits (λ a b. (a + b) % 2 + 2 * (a * b) ≡ a + b) refl refl refl refl (bit R 0) (bit S 0) (bit-lt R 0) (bit-lt S 0)
+    ∙ ap₂ _+_ (bit-low R) (bit-low S)
+
+half-⊕ : (R S : ℕ) → (R ⊕ S) / 2 ≡ (R / 2) ⊕ (S / 2)
+unfolding _⊕_
+half-⊕ R S = xor-shr R S 1
+
+pub size-⊕ : (R S : ℕ) → size (R ⊕ S) + 2 * size (R ∩ S) ≡ size R + size S
+unfolding size
+size-⊕ =
+    bin-ind (λ (R : ℕ). (S : ℕ) → ones (R ⊕ S) + 2 * ones (R ∩ S) ≡ ones R + ones S)
+    (λ S. rw (zero-⊕ S, ⊆-zero (0 ∩ S) (⊆-in (0 ∩ S) 0 (λ i m. ∩-out 0 S i m .0))) (let o : ones 0 ≡ 0 = ones-ones 0 in omega arith))
+    (λ R ih S.
+    let a : ones (R ⊕ S) ≡ (R ⊕ S) % 2 + ones ((R / 2) ⊕ (S / 2)) = ones-step (R ⊕ S) ∙ ap (λ (x : ℕ). (R ⊕ S) % 2 + ones x) (half-⊕ R S) in
+    let b : ones (R ∩ S) ≡ (R ∩ S) % 2 + ones ((R / 2) ∩ (S / 2)) = ones-step (R ∩ S) ∙ ap (λ (x : ℕ). (R ∩ S) % 2 + ones x) (half-∩ R S) in
+    omega (arith, a, b, ones-step R, ones-step S, ih (S / 2), low-⊕ R S))
+
 -- a set of no disk, and of one
 pub size-none : (S : ℕ) → size S ≡ 0 → S ≡ 0
 size-none S e =
@@ -83,8 +115,7 @@ size-none S e =
 
 pub size-one : (S : ℕ) → size S ≡ 1 → S ≡ 2 ^ lowest S
 size-one S e =
-    let z : size 0 ≡ 0 = (let h = size-lt 0 0 (omega arith) in omega arith) in
-    let m : T (has S (lowest S)) = lowest-has S (λ o. let h : size S ≡ 0 = ap size o ∙ z in omega arith) in
+    let m : T (has S (lowest S)) = lowest-has S (λ o. let h : size S ≡ 0 = ap size o ∙ size-zero in omega arith) in
     let h = size-less S (lowest S) m in
     let n : S ∖ 2 ^ lowest S ≡ 0 = size-none (S ∖ 2 ^ lowest S) (omega arith) in
     sym (less-back S (lowest S) m) ∙ ap (λ (x : ℕ). x ⊕ 2 ^ lowest S) n ∙ zero-⊕ (2 ^ lowest S)
