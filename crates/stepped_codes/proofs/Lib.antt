@@ -1,0 +1,10 @@
+pub mod Sizes
+pub mod Counting
+pub mod Listed
+pub mod Bounds
+pub mod Placing
+pub mod Distance
+pub mod Stepping
+pub mod Covering
+pub mod Codes
+pub mod Calls

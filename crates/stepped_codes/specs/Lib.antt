@@ -1,0 +1,4 @@
+pub mod Stepped
+pub mod Faults
+pub mod Placing
+pub mod Theorems
