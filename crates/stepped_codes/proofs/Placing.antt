@@ -39,7 +39,7 @@ entry-map f (x ∷ xs) (suc i) l = entry-map f xs i (omega arith)
 
 -- ---- of one size
 
-choose-none : (n : ℕ) → choose n 0 ≡ 1
+pub choose-none : (n : ℕ) → choose n 0 ≡ 1
 unfolding choose
 choose-none zero = refl
 choose-none (suc n) = refl

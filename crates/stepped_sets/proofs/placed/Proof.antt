@@ -1,0 +1,95 @@
+-- placed meets its contract. Assumes nothing.
+use mathlib.Core.Path.{ap}
+use Prim.Native.Nat.{ℕ, _+_, _-_}
+use native.Mathlib.Nat.{zero-add}
+use native.Mathlib.Omega.{arith}
+use borrow.Author.Needs.{needs}
+use Rattle.gf2.proofs.Bits.{one-shifted}
+use Rattle.stepped_codes.specs.Placing.{placed}
+use Rattle.stepped_sets.proofs.Going.{Going, going-low, going-high, rest, going-fits, going-end}
+use Rattle.stepped_sets.proofs.placed.Statement.{statement}
+use Rattle.stepped_sets.proofs.placed.Tie as tie
+
+abbrev Inv-loop : tie.InvT-loop
+Inv-loop rows m s i set₀ size₀ left₀ j₀ set size left j = Going m s i set size left j
+
+abbrev μ-loop : tie.MeasureT-loop
+μ-loop rows m s i set₀ size₀ left₀ j₀ set size left j = j
+
+-- src/lib.rt:56:5
+loop-holds : tie.Need-loop-holds Inv-loop μ-loop
+loop-holds c = (omega arith, omega arith, c .pre .3, zero-add (placed _ _ _))
+
+-- src/lib.rt:57:9
+sub-j : tie.Need-sub-j Inv-loop μ-loop
+sub-j c = search needs
+
+-- src/lib.rt:58:13
+choose-requires : tie.Need-choose-requires Inv-loop μ-loop
+choose-requires c κs = search needs
+
+-- src/lib.rt:60:28
+cast-set : tie.Need-cast-set Inv-loop μ-loop
+cast-set c = search needs
+
+-- src/lib.rt:60:20
+shl-set : tie.Need-shl-set Inv-loop μ-loop
+shl-set c = search needs
+
+-- src/lib.rt:60:13
+add-set : tie.Need-add-set Inv-loop μ-loop
+add-set c =
+    let e = c .before .before .before .before in
+    let l = c .before .before .before .loop in
+    let f = going-fits (e .args .m) (e .args .s) (e .args .i) (l .set) (l .size) (l .left) (l .j) _ (l .inv) (omega arith) (c .before .choose .ensures) (e .pre .1) (c .if1 .taken) in
+    omega (arith, one-shifted (l .j - 1) (omega arith), f)
+
+-- src/lib.rt:61:13
+sub-size : tie.Need-sub-size Inv-loop μ-loop
+sub-size c =
+    let e = c .before .before .before .before in
+    let l = c .before .before .before .loop in
+    rest (e .args .m) (e .args .s) (e .args .i) (l .set) (l .size) (l .left) (l .j) _ (l .inv) (omega arith) (c .before .choose .ensures) (c .if1 .taken) .0
+
+-- src/lib.rt:56:5
+loop-less : tie.Need-loop-less Inv-loop μ-loop
+loop-less c = search needs
+
+-- src/lib.rt:56:5
+loop-again : tie.Need-loop-again Inv-loop μ-loop
+loop-again c =
+    let l = c .before .before .before .loop in
+    going-high _ _ _ (l .set) (l .size) (l .left) (l .j) _ (l .inv) (omega arith) (c .before .choose .ensures) _ (one-shifted (l .j - 1) (omega arith)) (c .if1 .taken)
+
+-- src/lib.rt:56:5
+loop-less-2 : tie.Need-loop-less-2 Inv-loop μ-loop
+loop-less-2 c = search needs
+
+-- src/lib.rt:56:5
+loop-again-2 : tie.Need-loop-again-2 Inv-loop μ-loop
+loop-again-2 c =
+    let l = c .before .before .before .loop in
+    going-low _ _ _ (l .set) (l .size) (l .left) (l .j) _ (l .inv) (omega arith) (c .before .choose .ensures) (c .if1 .left)
+
+-- src/lib.rt:48:1
+returns : tie.Need-returns Inv-loop μ-loop
+returns c = going-end _ _ _ _ _ _ _ (c .before .loop .inv) (omega arith)
+
+pub placed-spec : {M : Type 1} → statement M
+placed-spec =
+    tie.close
+    (tie.spec
+    Inv-loop
+    μ-loop
+    loop-holds
+    sub-j
+    choose-requires
+    cast-set
+    shl-set
+    add-set
+    sub-size
+    loop-less
+    loop-again
+    loop-less-2
+    loop-again-2
+    returns)

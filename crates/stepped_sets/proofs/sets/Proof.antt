@@ -1,0 +1,77 @@
+-- sets meets its contract. Assumes nothing.
+use mathlib.Core.Path.{_≡_, refl, ap, _∙_}
+use Prim.Native.Nat.{ℕ, _-_, _≤_}
+use native.Mathlib.Omega.{arith}
+use borrow.Author.Needs.{needs}
+use lib.ListN.{length, length-set}
+use Rattle.flat.specs.Lists.{tabulate, padded}
+use Rattle.flat.proofs.Lists.{fill-none, fill-more}
+use Rattle.stepped_codes.specs.Stepped.{paritySet}
+use Rattle.stepped_sets.proofs.sets.Statement.{statement}
+use Rattle.stepped_sets.proofs.sets.Tie as tie
+
+abbrev Inv-loop : tie.InvT-loop
+Inv-loop d m k rows out₀ i₀ out i = (i ≤ k) × (length out ≡ 16) × (out ≡ padded 16 (tabulate i (paritySet d m)))
+
+abbrev μ-loop : tie.MeasureT-loop
+μ-loop d m k rows out₀ i₀ out i = k - i
+
+-- src/lib.rt:89:9
+triangle-requires : tie.Need-triangle-requires Inv-loop μ-loop
+triangle-requires c κs = search needs
+
+-- src/lib.rt:91:5
+loop-holds : tie.Need-loop-holds Inv-loop μ-loop
+loop-holds c = (omega arith, refl, fill-none 16 _)
+
+-- src/lib.rt:92:18
+parity-set-requires : tie.Need-parity-set-requires Inv-loop μ-loop
+parity-set-requires c κs =
+    let s = c .before .before in
+    (s .triangle .ensures, s .before .pre .0, s .before .pre .1, omega (arith, s .before .pre .3))
+
+-- src/lib.rt:92:9
+mul-out : tie.Need-mul-out Inv-loop μ-loop
+mul-out c = search needs
+
+-- src/lib.rt:92:9
+array-write-out : tie.Need-array-write-out Inv-loop μ-loop
+array-write-out c = search needs
+
+-- src/lib.rt:91:9
+add-i : tie.Need-add-i Inv-loop μ-loop
+add-i c = search needs
+
+-- src/lib.rt:91:5
+loop-less : tie.Need-loop-less Inv-loop μ-loop
+loop-less c = search needs
+
+-- src/lib.rt:91:5
+loop-again : tie.Need-loop-again Inv-loop μ-loop
+loop-again c =
+    let l = c .before .before .loop in
+    (omega arith, simp length-set (l .inv .1), fill-more 16 (l .i) _ _ _ (omega arith) (l .inv .2) (c .parity-set .ensures))
+
+-- src/lib.rt:85:1
+returns : tie.Need-returns Inv-loop μ-loop
+returns c =
+    let a = c .before .before .before .args in
+    let l = c .before .loop in
+    let e : l .i ≡ a .k = omega arith in
+    l .inv .2 ∙ ap (λ (i : ℕ). padded 16 (tabulate i (paritySet (a .d) (a .m)))) e
+
+pub sets-spec : {M : Type 1} → statement M
+sets-spec =
+    tie.close
+    (tie.spec
+    Inv-loop
+    μ-loop
+    triangle-requires
+    loop-holds
+    parity-set-requires
+    mul-out
+    array-write-out
+    add-i
+    loop-less
+    loop-again
+    returns)
