@@ -5,7 +5,7 @@ use mathlib.Core.Bool.{Bool, true}
 use mathlib.Core.Logic.{_⊎_, inl, inr}
 use mathlib.Core.List.{List}
 use Prim.Native.Nat.{ℕ, suc, _+_, _-_, _*_, _^_, _≤_, _<_}
-use native.Mathlib.Nat.{add-zero, pow-suc, lt-of-lt-of-le}
+use native.Mathlib.Nat.{add-zero, lt-of-lt-of-le}
 use native.Mathlib.Omega.{arith}
 use borrow.Author.Tests.{lt-ltb, le-ltb, ne-eqb}
 use lib.Dec.{ltb, eqb}
@@ -26,11 +26,6 @@ use Rattle.flat.proofs.Quantifiers.{set-lt, bit-set, add-power}
 column-field : (k m : ℕ) (bs : List ℕ) (j : ℕ) → j < m → column (codeIn k m bs) j ≡ field (2 * j) 2 bs
 unfolding column
 column-field k m bs = column-at m bs
-
--- a number with one more digit at the front still has its digits
-pub add-fits : (a n : ℕ) → a < 2 ^ n → n < 32 → a + 2 ^ n < 2 ^ 32
-add-fits a n l h =
-    lt-of-lt-of-le (let z : a + 2 ^ n < 2 ^ suc n = rw pow-suc (omega arith) in z) (pow-mono {j = 32} h)
 
 module _ (k m i : ℕ) (bs : List ℕ) where
   -- is disk d in row i?

@@ -1,18 +1,19 @@
--- Sets made by a test: the disks below n of which p holds, and the disks below n that are not in a set.
+-- Sets made by a test: the disks below n of which p holds, such a set added up disk by disk, and the disks below n that are not in a set.
 -- Assumes nothing.
 use mathlib.Core.Path.{_≡_, refl, sym, ap, ap₂, _∙_, subst}
 use mathlib.Core.Bool.{Bool, true, false, not}
 use mathlib.Core.Logic.{_⊎_, inl, inr}
 use Prim.Native.Nat.{ℕ, zero, suc, _+_, _*_, _%_, _^_, _≤_, _<_}
-use native.Mathlib.Nat.{not-suc-le-zero, pow-suc, lt-irrefl}
+use native.Mathlib.Nat.{not-suc-le-zero, pow-suc, add-zero, lt-irrefl, lt-of-lt-of-le}
+use native.Mathlib.Numerals.{add-one}
 use native.Mathlib.Omega.{arith}
 use lib.Dec.{T}
-use lib.Pow.{pow-pos}
+use lib.Pow.{pow-pos, pow-mono}
 use lib.Bits.{xor-disjoint, and-comm, and-shifted}
 use Rattle.gf2.specs.If.{if_then_else_}
 use Rattle.gf2.specs.Sets.{bit, has, first, setOf, _⊕_, _∖_}
 use Rattle.gf2.proofs.Tests.{T-ext, not-in, not-out, ltb-in, ltb-out, below-suc, below-or}
-use Rattle.gf2.proofs.Bits.{bit-lt, bit-above, bit-⊕, bit-pow-same, bit-pow-other, not-has, has-if}
+use Rattle.gf2.proofs.Bits.{bit-lt, bit-above, bit-⊕, bit-pow-same, bit-pow-other, not-has, has-if, one-shifted-in}
 use Rattle.gf2.proofs.Subsets.{same-disks, ∖-in, ∖-out}
 use Rattle.gf2.proofs.Unions.{first-has}
 
@@ -90,7 +91,25 @@ set-is n S p h e = same-disks (setOf n p) S (λ i. go i (below-or i n))
 pub set-cong : (n : ℕ) (p q : ℕ → Bool) → ((i : ℕ) → i < n → p i ≡ q i) → setOf n p ≡ setOf n q
 set-cong n p q h = set-is n (setOf n q) p (set-lt n q) (λ i l. h i l ∙ sym (has-set n q i l))
 
--- the disks below n that are not lost
+-- ---- a set added up disk by disk, in a number of w bits
+
+pub add-fits : (w n s : ℕ) → s < 2 ^ n → n < w → s + 2 ^ n < 2 ^ w
+add-fits w n s l h = lt-of-lt-of-le (let z : s + 2 ^ n < 2 ^ suc n = rw pow-suc (omega arith) in z) (pow-mono h)
+
+module _ (n s : ℕ) (p : ℕ → Bool) (so : s ≡ setOf n p) where
+  pub set-fits : (w : ℕ) → n < w → s + (1 * 2 ^ n) % 2 ^ w < 2 ^ w
+  set-fits w h = rw (so, one-shifted-in w n h) (add-fits w n (setOf n p) (set-lt n p) h)
+
+  pub set-more : (w : ℕ) → n < w → p n ≡ true → s + (1 * 2 ^ n) % 2 ^ w ≡ setOf (n + 1) p
+  unfolding setOf
+  set-more w h t = rw (add-one, t, one-shifted-in w n h, so)
+
+  pub set-same : p n ≡ false → s ≡ setOf (n + 1) p
+  unfolding setOf
+  set-same f = rw (add-one, f, so) (sym (add-zero (setOf n p)))
+
+-- ---- the disks below n that are not lost
+
 pub rest-set : (n lost : ℕ) → first n ∖ lost ≡ setOf n (λ i. not (has lost i))
 rest-set n lost =
     same-disks (first n ∖ lost) (setOf n (λ i. not (has lost i)))

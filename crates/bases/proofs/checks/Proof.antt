@@ -8,12 +8,13 @@ use denote.Ref.{now}
 use lib.ListN.{length, take}
 use lib.Pow.{pow-mono}
 use Rattle.gf2.proofs.Bits.{one-shifted}
+use Rattle.gf2.proofs.Made.{add-fits}
 use Rattle.flat.specs.Lists.{padded, tabulate}
 use Rattle.flat.specs.Cards.{codeIn}
 use Rattle.flat.specs.Checks.{check}
 use Rattle.flat.specs.Spans.{checks}
 use Rattle.flat.proofs.Lists.{fill-none, fill-more, length-tabulate, take-padded}
-use Rattle.bases.proofs.Adding.{add-fits, check-sum}
+use Rattle.bases.proofs.Adding.{check-sum}
 use borrow.Author.Needs.{needs}
 use Rattle.bases.proofs.checks.Statement.{statement}
 use Rattle.bases.proofs.checks.Tie as tie
@@ -60,7 +61,7 @@ add-out-2 c =
     record {
       fits =
           rw (one-shifted (kOf c + jOf c) h)
-          (add-fits (c .column .result) (kOf c + jOf c) (lt-of-lt-of-le (small c) (pow-mono (let z : kOf c ≤ kOf c + jOf c = omega arith in z))) h);
+          (add-fits 32 (kOf c + jOf c) (c .column .result) (lt-of-lt-of-le (small c) (pow-mono (let z : kOf c ≤ kOf c + jOf c = omega arith in z))) h);
     }
 
 mul-out : tie.Need-mul-out Inv-loop μ-loop

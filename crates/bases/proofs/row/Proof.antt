@@ -9,9 +9,10 @@ use denote.Ref.{now}
 use Rattle.gf2.specs.If.{if_then_else_}
 use Rattle.gf2.specs.Sets.{has}
 use Rattle.gf2.proofs.Bits.{one-shifted}
+use Rattle.gf2.proofs.Made.{add-fits}
 use Rattle.flat.specs.Lists.{setOf, field}
 use Rattle.flat.proofs.Quantifiers.{set-lt}
-use Rattle.bases.proofs.Adding.{add-fits, inRow, row-start, row-more, row-end}
+use Rattle.bases.proofs.Adding.{inRow, row-start, row-more, row-end}
 use borrow.Author.Needs.{needs}
 use Rattle.bases.proofs.row.Statement.{statement}
 use Rattle.bases.proofs.row.Tie as tie
@@ -86,7 +87,7 @@ add-r-2 c =
     let a = start (c .before) .args in
     let l : turn (c .before) .loop .r < 2 ^ place (c .before) =
     subst (λ (x : ℕ). x < 2 ^ place (c .before)) (sym (turn (c .before) .loop .inv .1)) (set-lt (place (c .before)) (inRow (a .k) (a .m) (a .i) (now (a .columns)))) in
-    record { fits = rw (one-shifted (place (c .before)) (place-lt (c .before))) (add-fits _ (place (c .before)) l (place-lt (c .before))) }
+    record { fits = rw (one-shifted (place (c .before)) (place-lt (c .before))) (add-fits 32 (place (c .before)) _ l (place-lt (c .before))) }
 
 add-j : tie.Need-add-j Inv-loop μ-loop
 add-j c = search needs

@@ -40,7 +40,7 @@ shl-lost c = search needs
 add-lost : tie.Need-add-lost Inv-loop μ-loop
 add-lost c =
     let at = c .before .before .before in
-    record { fits = lost-fits _ _ _ (omega arith) (at .loop .inv .1) }
+    record { fits = lost-fits _ _ _ (at .loop .inv .1) (omega arith) }
 
 add-i : tie.Need-add-i Inv-loop μ-loop
 add-i c = search needs

@@ -1,0 +1,104 @@
+-- column meets its contract: after i turns the column has those of the first i data disks whose set has the disk.
+-- Assumes nothing.
+use mathlib.Core.Path.{_≡_, refl, sym, ap, _∙_}
+use mathlib.Core.Bool.{Bool}
+use mathlib.Core.Logic.{⊎-elim}
+use mathlib.Core.List.{List}
+use Prim.Native.Nat.{ℕ, _-_, _≤_}
+use native.Mathlib.Omega.{arith}
+use borrow.Author.Needs.{needs}
+use lib.ListN.{getD}
+use Rattle.gf2.specs.Sets.{has}
+use Rattle.gf2.proofs.Made.{set-fits, set-more, set-same}
+use Rattle.flat.specs.Lists.{setOf}
+use Rattle.stepped_card.proofs.column.Statement.{statement}
+use Rattle.stepped_card.proofs.column.Tie as tie
+
+-- does data disk i's set have disk j?
+abbrev named : List ℕ → ℕ → ℕ → Bool
+named sets j i = has (getD sets i 0) j
+
+none-named : (sets : List ℕ) (j : ℕ) → 0 ≡ setOf 0 (named sets j)
+unfolding setOf
+none-named sets j = refl
+
+abbrev Inv-loop : tie.InvT-loop
+Inv-loop k j sets c₀ i₀ c i = (i ≤ k) × (c ≡ setOf i (named sets j))
+
+abbrev μ-loop : tie.MeasureT-loop
+μ-loop k j sets c₀ i₀ c i = k - i
+
+-- src/lib.rt:84:5
+loop-holds : tie.Need-loop-holds Inv-loop μ-loop
+loop-holds c = (omega arith, none-named (c .args .t1) (c .args .j))
+
+-- src/lib.rt:85:21
+mul-has : tie.Need-mul-has Inv-loop μ-loop
+mul-has c = search needs
+
+-- src/lib.rt:85:21
+array-read-has : tie.Need-array-read-has Inv-loop μ-loop
+array-read-has c = search needs
+
+-- src/lib.rt:85:12
+has-requires : tie.Need-has-requires Inv-loop μ-loop
+has-requires c κs = search needs
+
+-- src/lib.rt:86:26
+cast-c : tie.Need-cast-c Inv-loop μ-loop
+cast-c c = search needs
+
+-- src/lib.rt:86:18
+shl-c : tie.Need-shl-c Inv-loop μ-loop
+shl-c c = search needs
+
+-- src/lib.rt:86:13
+add-c : tie.Need-add-c Inv-loop μ-loop
+add-c c =
+    let a = c .before .before .before .before .args in
+    record { fits = set-fits _ _ (named (a .t1) (a .j)) (c .before .before .before .loop .inv .1) 16 (omega arith) }
+
+-- src/lib.rt:84:9
+add-i : tie.Need-add-i Inv-loop μ-loop
+add-i c = search needs
+
+-- src/lib.rt:84:5
+loop-less : tie.Need-loop-less Inv-loop μ-loop
+loop-less c = search needs
+
+-- src/lib.rt:84:5
+loop-again : tie.Need-loop-again Inv-loop μ-loop
+loop-again c =
+    let a = c .before .before .before .before .args in
+    let l = c .before .before .before .loop in
+    let h = sym (c .before .has .ensures) in (
+      omega arith,
+      ⊎-elim (λ w. w .1 ∙ set-more _ _ (named (a .t1) (a .j)) (l .inv .1) 16 (omega arith) (h ∙ w .0 .taken))
+          (λ w. w .1 ∙ set-same _ _ (named (a .t1) (a .j)) (l .inv .1) (h ∙ w .0 .left)) (c .if1 .came),
+    )
+
+-- src/lib.rt:79:1
+returns : tie.Need-returns Inv-loop μ-loop
+returns c =
+    let a = c .before .before .args in
+    let l = c .before .loop in
+    let e : l .i ≡ a .k = omega arith in
+    l .inv .1 ∙ ap (λ (i : ℕ). setOf i (named (a .t1) (a .j))) e
+
+pub column-spec : {M : Type 1} → statement M
+column-spec =
+    tie.close
+    (tie.spec
+    Inv-loop
+    μ-loop
+    loop-holds
+    mul-has
+    array-read-has
+    has-requires
+    cast-c
+    shl-c
+    add-c
+    add-i
+    loop-less
+    loop-again
+    returns)
