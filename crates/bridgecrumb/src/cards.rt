@@ -1,12 +1,14 @@
-// The calls on cards alone: the card reader, the card writer, and two cards alike.
+// The calls on cards alone: the card reader, the card writer, the stepped card, and two cards alike.
 ghost use mathlib.Core.Path.{_≡_};
 ghost use lib.ListN.{length};
 ghost use Rattle.flat.specs.Cards.{code};
 ghost use Rattle.flat.specs.Faults.{unlessRefused, cardReport, cardColumns, cardWriteReport, cardWriteBuffer, alikeReport};
+ghost use Rattle.stepped_codes.specs.Faults.{steppedReport, steppedBuffer};
 ghost use Rattle.export_bounds.specs.Coded.{coded, codedFault};
 use card::CardCheck;
 use export_codes::fault_code;
 use export_codes::likeness_code;
+use export_codes::stepped_code;
 use export_codes::written_code;
 
 // The card reader: k and m, and the columns, then zeros. A refused call writes nothing.
@@ -41,6 +43,16 @@ pub extern "C" fn bridgecrumb_card_write(k: usize, m: usize, columns: &[u16], ou
     ensures { λ _. ⌜ now (out .exit) ≡ cardWriteBuffer (code k m (now (columns .entry))) (now (out .entry)) ⌝ }
 {
     written_code(card_writer::write(k, m, columns, out))
+}
+
+// The Stepped Combination card of d, m and k into a buffer of exactly its length. A refused call writes
+// nothing.
+#[no_mangle]
+pub extern "C" fn bridgecrumb_card_stepped(d: usize, m: usize, k: usize, out: &mut [u8]) -> u64
+    ensures { λ r. ⌜ r ≡ coded (steppedReport d m k (length (now (out .entry)))) ⌝ }
+    ensures { λ _. ⌜ now (out .exit) ≡ steppedBuffer d m k (now (out .entry)) ⌝ }
+{
+    stepped_code(stepped_card::write(d, m, k, out))
 }
 
 // Whether two cards are alike. The first card's refusals come before the second's.

@@ -6,11 +6,12 @@ use Rattle.record_format.specs.Faults.{recordWriteReport, recordWriteOutput, re
 use Rattle.peeling.specs.Faults.{trayReport, trayBytes}
 use Rattle.updating.specs.Faults.{updateReport, updateStripe}
 use Rattle.partial_rebuilding.specs.Faults.{partialReport, partialStripe}
+use Rattle.stepped_codes.specs.Faults.{steppedReport, steppedBuffer}
 use Rattle.flat.proofs.Reports.{unless-not}
 use Rattle.demands.specs.Demand1.{Demand1}
 
 pub demand1 : Demand1
-unfolding cardWriteBuffer encodeStripe erasuresSlice equationsSlice rebuildStripe recordWriteOutput trayBytes updateStripe partialStripe
+unfolding cardWriteBuffer encodeStripe erasuresSlice equationsSlice rebuildStripe recordWriteOutput trayBytes updateStripe partialStripe steppedBuffer
 demand1 = record {
   card-writer = λ C buffer. unless-not (cardWriteReport C (length buffer)) _ buffer;
   encoder = λ card L stripe. unless-not (encodeReport card L (length stripe)) _ stripe;
@@ -21,6 +22,7 @@ demand1 = record {
   quick-repair = λ card L budget Ss tray. unless-not (trayReport card L budget Ss tray) _ tray;
   update = λ card L stripe d new. unless-not (updateReport card L (length stripe) d (length new)) _ stripe;
   partial-rebuild = λ card L S stripe. unless-not (partialReport card L S stripe) _ stripe;
+  stepped-card = λ d m k buffer. unless-not (steppedReport d m k (length buffer)) _ buffer;
   card-counts = λ card counts. unless-not (cardReport card) _ counts;
   card-columns = λ card columns. unless-not (cardReport card) _ columns;
   vector = λ card n vector. unless-not (erasuresReport card n) _ vector;

@@ -16,6 +16,7 @@ use Rattle.record_format.specs.Faults.{recordWriteReport, recordWriteOutput, re
 use Rattle.peeling.specs.Faults.{trayReport, trayLefts, trayBytes}
 use Rattle.updating.specs.Faults.{updateReport, updateStripe}
 use Rattle.partial_rebuilding.specs.Faults.{partialReport, partialStripe}
+use Rattle.stepped_codes.specs.Faults.{steppedReport, steppedBuffer}
 
 -- the call is refused
 abbrev pub Refused : Report → Type 0
@@ -34,6 +35,7 @@ pub record Demand1 : Type 0 where
   pub update : (card : List ℕ) (L : ℕ) (stripe : List ℕ) (d : ℕ) (new : List ℕ) → Refused (updateReport card L (length stripe) d (length new))
       → updateStripe card L stripe d new ≡ stripe
   pub partial-rebuild : (card : List ℕ) (L S : ℕ) (stripe : List ℕ) → Refused (partialReport card L S stripe) → partialStripe card L S stripe ≡ stripe
+  pub stepped-card : (d m k : ℕ) (buffer : List ℕ) → Refused (steppedReport d m k (length buffer)) → steppedBuffer d m k buffer ≡ buffer
   -- the arrays that a caller in C lends, as the exported calls leave them: the card reader's, the lister's, the record reader's, the body
   -- call's and quick repair's
   pub card-counts : (card counts : List ℕ) → Refused (cardReport card) → unlessRefused (cardReport card) (cardReport card .values) counts ≡ counts

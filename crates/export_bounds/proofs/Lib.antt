@@ -4,4 +4,5 @@ pub mod RecordValues
 pub mod TrayValues
 pub mod UpdateValues
 pub mod PartialValues
+pub mod SteppedValues
 pub mod Theorems

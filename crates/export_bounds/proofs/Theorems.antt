@@ -13,6 +13,7 @@ use Rattle.export_bounds.proofs.RecordValues.{record-write-fits, record
 use Rattle.export_bounds.proofs.TrayValues.{tray-fits}
 use Rattle.export_bounds.proofs.UpdateValues.{update-fits}
 use Rattle.export_bounds.proofs.PartialValues.{partial-fits}
+use Rattle.export_bounds.proofs.SteppedValues.{stepped-fits}
 
 pub coded-decodes : CodedDecodes
 coded-decodes r h = (omega arith, omega arith)
@@ -42,4 +43,5 @@ reports-fit = record {
   quick-repair = tray-fits;
   update = update-fits;
   partial-rebuild = partial-fits;
+  stepped-card = stepped-fits;
 }

@@ -12,6 +12,7 @@ use Rattle.record_format.specs.Faults.{recordWriteReport, recordReport, bodyRep
 use Rattle.peeling.specs.Faults.{trayReport}
 use Rattle.updating.specs.Faults.{updateReport}
 use Rattle.partial_rebuilding.specs.Faults.{partialReport}
+use Rattle.stepped_codes.specs.Faults.{steppedReport}
 use Rattle.export_bounds.specs.Coded.{value, coded, codedFault, Fits}
 
 -- The one number tells both: its low 8 bits are the report's number, and the rest is the value.
@@ -39,6 +40,7 @@ pub record ReportsFit : Type 0 where
   pub quick-repair : (card : List ℕ) (L budget : ℕ) (Ss tray : List ℕ) → Fits (trayReport card L budget Ss tray)
   pub update : (card : List ℕ) (L n d p : ℕ) → Fits (updateReport card L n d p)
   pub partial-rebuild : (card : List ℕ) (L S : ℕ) (stripe : List ℕ) → Fits (partialReport card L S stripe)
+  pub stepped-card : (d m k n : ℕ) → Fits (steppedReport d m k n)
 
 -- The minimal erasures are fewer than the data words.
 abbrev pub ErasuresFew : Type 0

@@ -17,6 +17,7 @@ ghost use Rattle.rebuilder.specs.Reports.{report as rebuiltReport};
 ghost use Rattle.partial_rebuilder.specs.Reports.{report as partlyRebuiltReport};
 ghost use Rattle.tray.specs.Reports.{report as repairedReport};
 ghost use Rattle.updater.specs.Reports.{report as updatedReport};
+ghost use Rattle.stepped_card.specs.Reports.{report as steppedWrittenReport};
 ghost use Rattle.export_bounds.specs.Coded.{coded, Fits};
 use card::CardFault;
 use card_writer::CardWritten;
@@ -26,6 +27,7 @@ use erasures::Listed;
 use likeness::Likeness;
 use partial_rebuilder::PartlyRebuilt;
 use rebuilder::Rebuilt;
+use stepped_card::SteppedWritten;
 use tray::Repaired;
 use updater::Updated;
 use verdicts::SetVerdict;
@@ -61,6 +63,20 @@ pub fn written_code(written: CardWritten) -> u64
         CardWritten::Done => 0,
         CardWritten::Refused(fault) => fault_code(fault),
         CardWritten::Buffer => 7,
+    }
+}
+
+// The stepped card's answer.
+pub fn stepped_code(written: SteppedWritten) -> u64
+    ensures { λ r. ⌜ r ≡ coded (steppedWrittenReport written) ⌝ }
+{
+    match written {
+        SteppedWritten::Done => 0,
+        SteppedWritten::DataCount => 2,
+        SteppedWritten::ParityCount => 3,
+        SteppedWritten::Distance => 20,
+        SteppedWritten::Bounds => 21,
+        SteppedWritten::Buffer => 7,
     }
 }
 
