@@ -54,7 +54,7 @@ map-range f a (suc n) =
 
 -- ---- padded lists
 
-length-padded : (n : ℕ) (xs : List ℕ) → length xs ≤ n → length (padded n xs) ≡ n
+pub length-padded : (n : ℕ) (xs : List ℕ) → length xs ≤ n → length (padded n xs) ≡ n
 unfolding padded
 length-padded n xs h = length-append xs (replicate (n - length xs) 0) ∙ ap (λ (i : ℕ). length xs + i) (length-replicate (n - length xs) 0) ∙ omega arith
 

@@ -13,7 +13,7 @@ use Rattle.gf2.proofs.Made.{set-cong}
 use Rattle.flat.specs.Lists.{setOf, padded, tabulate}
 use Rattle.flat.specs.Cards.{code, countOk, cardLength, cardBytes}
 use Rattle.flat.specs.Faults.{Report, accepted, refused, cardWriteBuffer}
-use Rattle.flat.proofs.Lists.{take-padded, length-tabulate, getD-tabulate}
+use Rattle.flat.proofs.Lists.{length-padded, take-padded, length-tabulate, getD-tabulate}
 use Rattle.flat.proofs.Cards.{count-in}
 use Rattle.flat.proofs.Reports.{unless-refused}
 use Rattle.stepped_codes.specs.Stepped.{distanceOk, paritySets, paritySet, steppedColumn, stepped, withinBounds}
@@ -93,6 +93,9 @@ column-is d m k j c sets e is =
     (λ i l. ap (λ (S : ℕ). has S j)
     (ap (λ (xs : List ℕ). getD xs i 0) e ∙ List·getD-append (tabulate k f) (replicate (16 - length (tabulate k f)) 0) 0 i (omega (arith, length-tabulate k f))
     ∙ getD-tabulate k f i l))
+
+pub sets-long : (d m k : ℕ) (sets : List ℕ) → k ≤ 16 → sets ≡ padded 16 (tabulate k (paritySet d m)) → length sets ≡ 16
+sets-long d m k sets l e = ap length e ∙ length-padded 16 (tabulate k (paritySet d m)) (omega (arith, length-tabulate k (paritySet d m)))
 
 pub all-columns : (d m k : ℕ) → padded 16 (tabulate m (steppedColumn d m k)) ≡ padded 16 (stepped d m k .columns)
 unfolding stepped

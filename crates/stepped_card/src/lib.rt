@@ -76,9 +76,9 @@ fn check(d: usize, m: usize, k: usize, n: usize) -> SteppedWritten
 }
 
 // The column of a parity disk: the data disks whose parity set has it.
-fn column(sets: [u32; 16], k: usize, j: u32) -> u16
-    requires { ⌜ (k ≤ 16) × (j < 32) ⌝ }
-    ensures { λ r. ⌜ r ≡ setOf k (λ i. has (getD sets i 0) j) ⌝ }
+fn column(sets: &[u32; 16], k: usize, j: u32) -> u16
+    requires { ⌜ (length (now sets) ≡ 16) × (k ≤ 16) × (j < 32) ⌝ }
+    ensures { λ r. ⌜ r ≡ setOf k (λ i. has (getD (now (sets .entry)) i 0) j) ⌝ }
 {
     let mut c = 0u16;
     for i in 0..k {
@@ -97,7 +97,7 @@ fn columns(d: usize, m: usize, k: usize) -> [u16; 16]
     let sets = stepped_sets::sets(d, m, k);
     let mut out = [0u16; 16];
     for j in 0..m {
-        out[j] = column(sets, k, j as u32);
+        out[j] = column(&sets, k, j as u32);
     }
     out
 }

@@ -7,10 +7,10 @@ use Prim.Native.Nat.{ℕ, zero, suc, _+_, _-_, _*_, _/_, _%_, _^_, _≤_, _<_}
 use native.Mathlib.Nat.{pow-suc}
 use native.Mathlib.Omega.{arith}
 use lib.Dec.{T, eqb, ltb}
-use lib.ListN.{getD}
+use lib.ListN.{length, getD}
 use Rattle.gf2.proofs.Tests.{true-T, eqb-out, ltb-out, and-out}
 use Rattle.flat.specs.Lists.{every, tabulate, padded}
-use Rattle.flat.proofs.Lists.{getD-tabulate}
+use Rattle.flat.proofs.Lists.{length-tabulate, getD-tabulate}
 use Rattle.flat.proofs.Quantifiers.{every-out}
 use Rattle.stepped_codes.specs.Stepped.{choose}
 use Rattle.stepped_sets.specs.Triangle.{packed, triangle}
@@ -53,6 +53,10 @@ row-next (suc p) above f l e =
     omega (arith, row-is (suc p) l, pow-suc 257 p)
 
 -- ---- the rows in their array
+
+pub triangle-long : (rows : List ℕ) → rows ≡ triangle → length rows ≡ 8
+unfolding triangle
+triangle-long rows e = ap length e ∙ length-tabulate 8 packed
 
 pub counted : (rows : List ℕ) (n r : ℕ) → rows ≡ triangle → n ≤ 7 → r ≤ 7 → getD rows n 0 / 2 ^ (8 * r) % 256 ≡ choose n r
 unfolding triangle

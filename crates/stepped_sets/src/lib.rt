@@ -36,8 +36,8 @@ fn triangle() -> [u64; 8]
 }
 
 // How many sets of r of n disks there are.
-fn choose(rows: [u64; 8], n: usize, r: usize) -> usize
-    requires { ⌜ (rows ≡ triangle) × (n ≤ 7) × (r ≤ 7) ⌝ }
+fn choose(rows: &[u64; 8], n: usize, r: usize) -> usize
+    requires { ⌜ (now rows ≡ triangle) × (n ≤ 7) × (r ≤ 7) ⌝ }
     ensures { λ c. ⌜ c ≡ choose n r ⌝ }
 {
     ((rows[n] >> (8 * r)) % 256) as usize
@@ -45,8 +45,8 @@ fn choose(rows: [u64; 8], n: usize, r: usize) -> usize
 
 // The i-th of the sets of s of m disks, smaller number first. From the highest disk down: the first sets lack it, as
 // many as there are of s of the disks below it, and the others have it, with one disk less among those.
-fn placed(rows: [u64; 8], m: usize, s: usize, i: usize) -> u32
-    requires { ⌜ (rows ≡ triangle) × (m ≤ 7) × (s ≤ 7) × (i < choose m s) ⌝ }
+fn placed(rows: &[u64; 8], m: usize, s: usize, i: usize) -> u32
+    requires { ⌜ (now rows ≡ triangle) × (m ≤ 7) × (s ≤ 7) × (i < choose m s) ⌝ }
     ensures { λ r. ⌜ r ≡ placed m s i ⌝ }
 {
     let mut set = 0u32;
@@ -66,8 +66,8 @@ fn placed(rows: [u64; 8], m: usize, s: usize, i: usize) -> u32
 }
 
 // Data disk i's parity set for distance d and m parity disks: first its size, by the counts of the sizes before it.
-fn parity_set(rows: [u64; 8], d: usize, m: usize, i: usize) -> u32
-    requires { ⌜ (rows ≡ triangle) × T (distanceOk d) × (m ≤ 6) × (i < length (paritySets d m)) ⌝ }
+fn parity_set(rows: &[u64; 8], d: usize, m: usize, i: usize) -> u32
+    requires { ⌜ (now rows ≡ triangle) × T (distanceOk d) × (m ≤ 6) × (i < length (paritySets d m)) ⌝ }
     ensures { λ r. ⌜ r ≡ paritySet d m i ⌝ }
 {
     let mut size = d - 1;
@@ -89,7 +89,7 @@ pub fn sets(d: usize, m: usize, k: usize) -> [u32; 16]
     let rows = triangle();
     let mut out = [0u32; 16];
     for i in 0..k {
-        out[i] = parity_set(rows, d, m, i);
+        out[i] = parity_set(&rows, d, m, i);
     }
     out
 }

@@ -7,6 +7,7 @@ use mathlib.Core.List.{List}
 use Prim.Native.Nat.{ℕ, _-_, _≤_}
 use native.Mathlib.Omega.{arith}
 use borrow.Author.Needs.{needs}
+use denote.Ref.{now}
 use lib.ListN.{getD}
 use Rattle.gf2.specs.Sets.{has}
 use Rattle.gf2.proofs.Made.{set-fits, set-more, set-same}
@@ -23,22 +24,22 @@ unfolding setOf
 none-named sets j = refl
 
 abbrev Inv-loop : tie.InvT-loop
-Inv-loop k j sets c₀ i₀ c i = (i ≤ k) × (c ≡ setOf i (named sets j))
+Inv-loop sets k j c₀ i₀ c i = (i ≤ k) × (c ≡ setOf i (named sets j))
 
 abbrev μ-loop : tie.MeasureT-loop
-μ-loop k j sets c₀ i₀ c i = k - i
+μ-loop sets k j c₀ i₀ c i = k - i
 
 -- src/lib.rt:84:5
 loop-holds : tie.Need-loop-holds Inv-loop μ-loop
-loop-holds c = (omega arith, none-named (c .args .t1) (c .args .j))
+loop-holds c = (omega arith, none-named (now (c .args .sets)) (c .args .j))
 
 -- src/lib.rt:85:21
 mul-has : tie.Need-mul-has Inv-loop μ-loop
 mul-has c = search needs
 
 -- src/lib.rt:85:21
-array-read-has : tie.Need-array-read-has Inv-loop μ-loop
-array-read-has c = search needs
+element-copy-out-has : tie.Need-element-copy-out-has Inv-loop μ-loop
+element-copy-out-has c = search needs
 
 -- src/lib.rt:85:12
 has-requires : tie.Need-has-requires Inv-loop μ-loop
@@ -55,8 +56,8 @@ shl-c c = search needs
 -- src/lib.rt:86:13
 add-c : tie.Need-add-c Inv-loop μ-loop
 add-c c =
-    let a = c .before .before .before .before .args in
-    record { fits = set-fits _ _ (named (a .t1) (a .j)) (c .before .before .before .loop .inv .1) 16 (omega arith) }
+    let a = c .before .before .before .before .before .args in
+    record { fits = set-fits _ _ (named (now (a .sets)) (a .j)) (c .before .before .before .before .loop .inv .1) 16 (omega arith) }
 
 -- src/lib.rt:84:9
 add-i : tie.Need-add-i Inv-loop μ-loop
@@ -69,12 +70,12 @@ loop-less c = search needs
 -- src/lib.rt:84:5
 loop-again : tie.Need-loop-again Inv-loop μ-loop
 loop-again c =
-    let a = c .before .before .before .before .args in
-    let l = c .before .before .before .loop in
+    let a = c .before .before .before .before .before .args in
+    let l = c .before .before .before .before .loop in
     let h = sym (c .before .has .ensures) in (
       omega arith,
-      ⊎-elim (λ w. w .1 ∙ set-more _ _ (named (a .t1) (a .j)) (l .inv .1) 16 (omega arith) (h ∙ w .0 .taken))
-          (λ w. w .1 ∙ set-same _ _ (named (a .t1) (a .j)) (l .inv .1) (h ∙ w .0 .left)) (c .if1 .came),
+      ⊎-elim (λ w. w .1 ∙ set-more _ _ (named (now (a .sets)) (a .j)) (l .inv .1) 16 (omega arith) (h ∙ w .0 .taken))
+          (λ w. w .1 ∙ set-same _ _ (named (now (a .sets)) (a .j)) (l .inv .1) (h ∙ w .0 .left)) (c .if1 .came),
     )
 
 -- src/lib.rt:79:1
@@ -83,7 +84,7 @@ returns c =
     let a = c .before .before .args in
     let l = c .before .loop in
     let e : l .i ≡ a .k = omega arith in
-    l .inv .1 ∙ ap (λ (i : ℕ). setOf i (named (a .t1) (a .j))) e
+    l .inv .1 ∙ ap (λ (i : ℕ). setOf i (named (now (a .sets)) (a .j))) e
 
 pub column-spec : {M : Type 1} → statement M
 column-spec =
@@ -93,7 +94,7 @@ column-spec =
     μ-loop
     loop-holds
     mul-has
-    array-read-has
+    element-copy-out-has
     has-requires
     cast-c
     shl-c

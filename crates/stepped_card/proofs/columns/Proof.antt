@@ -7,7 +7,7 @@ use lib.ListN.{length, length-set}
 use Rattle.flat.specs.Lists.{tabulate, padded}
 use Rattle.flat.proofs.Lists.{fill-none, fill-more}
 use Rattle.stepped_codes.specs.Stepped.{steppedColumn}
-use Rattle.stepped_card.proofs.Laws.{column-is, all-columns}
+use Rattle.stepped_card.proofs.Laws.{sets-long, column-is, all-columns}
 use Rattle.stepped_card.proofs.columns.Statement.{statement}
 use Rattle.stepped_card.proofs.columns.Tie as tie
 
@@ -31,7 +31,9 @@ cast-column c = search needs
 
 -- src/lib.rt:100:18
 column-requires : tie.Need-column-requires Inv-loop μ-loop
-column-requires c κs = search needs
+column-requires c κs =
+    let s = c .before .before .before in
+    (sets-long _ _ _ _ (s .before .pre .2) (s .sets .ensures), omega arith, omega arith)
 
 -- src/lib.rt:100:9
 mul-out : tie.Need-mul-out Inv-loop μ-loop
@@ -52,8 +54,8 @@ loop-less c = search needs
 -- src/lib.rt:99:5
 loop-again : tie.Need-loop-again Inv-loop μ-loop
 loop-again c =
-    let l = c .before .before .loop in
-    let s = c .before .before .before in
+    let l = c .before .before .before .loop in
+    let s = c .before .before .before .before in
     let a = s .before .args in (
       omega arith,
       simp length-set (l .inv .1),

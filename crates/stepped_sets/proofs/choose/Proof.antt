@@ -1,7 +1,7 @@
 -- choose meets its contract. Assumes nothing.
 use native.Mathlib.Omega.{arith}
 use borrow.Author.Needs.{needs}
-use Rattle.stepped_sets.proofs.Rows.{counted}
+use Rattle.stepped_sets.proofs.Rows.{triangle-long, counted}
 use Rattle.stepped_sets.proofs.choose.Statement.{statement}
 use Rattle.stepped_sets.proofs.choose.Tie as tie
 
@@ -10,8 +10,8 @@ mul-result : tie.Need-mul-result
 mul-result c = search needs
 
 -- src/lib.rt:43:7
-array-read-result : tie.Need-array-read-result
-array-read-result c = search needs
+element-copy-out-result : tie.Need-element-copy-out-result
+element-copy-out-result c = omega (arith, triangle-long _ (c .pre .0))
 
 -- src/lib.rt:43:19
 mul-result-2 : tie.Need-mul-result-2
@@ -23,7 +23,7 @@ shr-result c = search needs
 
 -- src/lib.rt:39:1
 returns : tie.Need-returns
-returns c = counted _ _ _ (c .pre .0) (omega arith) (omega arith)
+returns c = counted _ _ _ (c .before .pre .0) (omega arith) (omega arith)
 
 pub choose-spec : {M : Type 1} → statement M
-choose-spec = tie.close (tie.spec mul-result array-read-result mul-result-2 shr-result returns)
+choose-spec = tie.close (tie.spec mul-result element-copy-out-result mul-result-2 shr-result returns)

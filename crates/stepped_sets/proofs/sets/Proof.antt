@@ -27,7 +27,7 @@ loop-holds c = (omega arith, refl, fill-none 16 _)
 -- src/lib.rt:92:18
 parity-set-requires : tie.Need-parity-set-requires Inv-loop μ-loop
 parity-set-requires c κs =
-    let s = c .before .before in
+    let s = c .before .before .before in
     (s .triangle .ensures, s .before .pre .0, s .before .pre .1, omega (arith, s .before .pre .3))
 
 -- src/lib.rt:92:9
@@ -49,7 +49,7 @@ loop-less c = search needs
 -- src/lib.rt:91:5
 loop-again : tie.Need-loop-again Inv-loop μ-loop
 loop-again c =
-    let l = c .before .before .loop in
+    let l = c .before .before .before .loop in
     (omega arith, simp length-set (l .inv .1), fill-more 16 (l .i) _ _ _ (omega arith) (l .inv .2) (c .parity-set .ensures))
 
 -- src/lib.rt:85:1
