@@ -4,6 +4,7 @@ use mathlib.Core.Path.{_≡_, refl, sym, ap, _∙_}
 use mathlib.Core.List.{List, [], _∷_}
 use Prim.Native.Nat.{ℕ, zero, suc, _+_, _-_, _*_, _%_, _^_, _≤_, _<_}
 use native.Mathlib.Omega.{arith}
+use borrow.Author.Tests.{lt-ltb}
 use lib.Dec.{T}
 use lib.ListN.{length}
 use lib.Pow.{pow-mono}
@@ -19,9 +20,19 @@ use Rattle.stepped_codes.proofs.Covering.{placed-lt, placed-lacks, placed-has}
 abbrev pub Going : ℕ → ℕ → ℕ → ℕ → ℕ → ℕ → ℕ → Type 0
 Going m s i set size left j = (j ≤ m) × (size ≤ s) × (left < choose j size) × (set + placed j size left ≡ placed m s i)
 
-module _ (m s i set size left j lacking : ℕ) (go : Going m s i set size left j) (some : 0 < j) (count : lacking ≡ choose (j - 1) size) where
+-- where disks are to be found, there is one
+pub going-some : (m s i set size left j : ℕ) → Going m s i set size left j → 0 < size → 0 < j
+unfolding choose
+going-some m s i set size left zero go h = absurd (none size h (go .2))
+  where
+    none : (t : ℕ) → 0 < t → left < choose 0 t → ⊥
+    none zero h l = omega arith
+    none (suc t) h l = omega arith
+going-some m s i set size left (suc j) go h = omega arith
+
+module _ (m s i set size left j lacking : ℕ) (go : Going m s i set size left j) (some : 0 < size) (count : lacking ≡ choose (j - 1) size) where
   below : j ≡ suc (j - 1)
-  below = omega arith
+  below = let h = going-some m s i set size left j go some in omega arith
 
   -- the set lacks the highest disk
   pub going-low : left < lacking → Going m s i set size left (j - 1)
@@ -37,15 +48,14 @@ module _ (m s i set size left j lacking : ℕ) (go : Going m s i set size left j
       ∙ ap (λ (n : ℕ). 2 ^ (j - 1) + placed (j - 1) (size - 1) (left - n)) (sym count)
 
   -- with one disk less below it
-  pub rest : lacking ≤ left → (1 ≤ size) × (left - lacking < choose (j - 1) (size - 1))
-  rest h = fewer size (go .2) count
-    where
-      fewer : (t : ℕ) → left < choose j t → lacking ≡ choose (j - 1) t → (1 ≤ t) × (left - lacking < choose (j - 1) (t - 1))
-      fewer zero l e = absurd (omega (arith, choose-none j, choose-none (j - 1)))
-      fewer (suc t) l e =
-          let q : suc t - 1 ≡ t = omega arith in
-          let n : choose j (suc t) ≡ choose (j - 1) t + choose (j - 1) (suc t) = ap (λ (x : ℕ). choose x (suc t)) below ∙ choose-suc (j - 1) t in
-          (omega arith, rw q (omega arith))
+  rest : lacking ≤ left → left - lacking < choose (j - 1) (size - 1)
+  rest h =
+      let e : size ≡ suc (size - 1) = omega arith in
+      let n : choose j size ≡ choose (j - 1) (size - 1) + choose (j - 1) size =
+      ap (choose j) e ∙ ap (λ (x : ℕ). choose x (suc (size - 1))) below ∙ choose-suc (j - 1) (size - 1)
+      ∙ ap (λ (x : ℕ). choose (j - 1) (size - 1) + choose (j - 1) x) (sym e) in
+      let l = go .2 in
+      omega arith
 
   pub going-high : (v : ℕ) → v ≡ 2 ^ (j - 1) → lacking ≤ left → Going m s i (set + v) (size - 1) (left - lacking) (j - 1)
   going-high v e h =
@@ -53,7 +63,7 @@ module _ (m s i set size left j lacking : ℕ) (go : Going m s i set size left j
       let b = go .1 in (
         omega arith,
         omega arith,
-        rest h .1,
+        rest h,
         omega (arith, held h, go .3),
       )
 
@@ -63,9 +73,18 @@ module _ (m s i set size left j lacking : ℕ) (go : Going m s i set size left j
       let p : 2 ^ m ≤ 128 = pow-mono {i = m} {j = 7} l in
       omega (arith, held h, go .3, placed-lt m s i)
 
--- no disk is left
-pub going-end : (m s i set size left j : ℕ) → Going m s i set size left j → j ≡ 0 → set ≡ placed m s i
+-- where none is, the rest is the empty set
+empty : (j left : ℕ) → left < choose j 0 → placed j 0 left ≡ 0
 unfolding placed
+empty zero left l = refl
+empty (suc j) left l =
+    let h : left < choose j 0 = omega (arith, choose-none j, choose-none (suc j)) in
+    rw (lt-ltb left (choose j 0) h) (empty j left h)
+
+pub going-end : (m s i set size left j : ℕ) → Going m s i set size left j → size ≡ 0 → set ≡ placed m s i
 going-end m s i set size left j go e =
-    let z : placed j size left ≡ 0 = rw e in
+    let z : placed j size left ≡ 0 = go-empty size e (go .2) in
     omega (arith, go .3)
+  where
+    go-empty : (t : ℕ) → t ≡ 0 → left < choose j t → placed j t left ≡ 0
+    go-empty t q = rw q (empty j left)

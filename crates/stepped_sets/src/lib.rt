@@ -43,8 +43,9 @@ fn choose(rows: &[u64; 8], n: usize, r: usize) -> usize
     ((rows[n] >> (8 * r)) % 256) as usize
 }
 
-// The i-th of the sets of s of m disks, smaller number first. From the highest disk down: the first sets lack it, as
-// many as there are of s of the disks below it, and the others have it, with one disk less among those.
+// The i-th of the sets of s of m disks, smaller number first. From the highest disk down, until all are found: the
+// first sets lack it, as many as there are of s of the disks below it, and the others have it, with one disk less
+// among those.
 fn placed(rows: &[u64; 8], m: usize, s: usize, i: usize) -> u32
     requires { ⌜ (now rows ≡ triangle) × (m ≤ 7) × (s ≤ 7) × (i < choose m s) ⌝ }
     ensures { λ r. ⌜ r ≡ placed m s i ⌝ }
@@ -53,7 +54,7 @@ fn placed(rows: &[u64; 8], m: usize, s: usize, i: usize) -> u32
     let mut size = s;
     let mut left = i;
     let mut j = m;
-    while 0 < j {
+    while 0 < size {
         j -= 1;
         let lacking = choose(rows, j, size);
         if lacking <= left {

@@ -1,12 +1,11 @@
 -- placed meets its contract. Assumes nothing.
-use mathlib.Core.Path.{ap}
-use Prim.Native.Nat.{ℕ, _+_, _-_}
+use Prim.Native.Nat.{_-_}
 use native.Mathlib.Nat.{zero-add}
 use native.Mathlib.Omega.{arith}
 use borrow.Author.Needs.{needs}
 use Rattle.gf2.proofs.Bits.{one-shifted}
 use Rattle.stepped_codes.specs.Placing.{placed}
-use Rattle.stepped_sets.proofs.Going.{Going, going-low, going-high, rest, going-fits, going-end}
+use Rattle.stepped_sets.proofs.Going.{Going, going-some, going-low, going-high, going-fits, going-end}
 use Rattle.stepped_sets.proofs.placed.Statement.{statement}
 use Rattle.stepped_sets.proofs.placed.Tie as tie
 
@@ -22,7 +21,7 @@ loop-holds c = (omega arith, omega arith, c .pre .3, zero-add (placed _ _ _))
 
 -- src/lib.rt:57:9
 sub-j : tie.Need-sub-j Inv-loop μ-loop
-sub-j c = search needs
+sub-j c = let l = c .before .loop in going-some _ _ _ (l .set) (l .size) (l .left) (l .j) (l .inv) (c .loop-test .taken)
 
 -- src/lib.rt:58:13
 choose-requires : tie.Need-choose-requires Inv-loop μ-loop
@@ -46,14 +45,14 @@ add-set c =
 
 -- src/lib.rt:61:13
 sub-size : tie.Need-sub-size Inv-loop μ-loop
-sub-size c =
-    let e = c .before .before .before .before in
-    let l = c .before .before .before .loop in
-    rest (e .args .m) (e .args .s) (e .args .i) (l .set) (l .size) (l .left) (l .j) _ (l .inv) (omega arith) (c .before .choose .ensures) (c .if1 .taken) .0
+sub-size c = search needs
 
 -- src/lib.rt:56:5
 loop-less : tie.Need-loop-less Inv-loop μ-loop
-loop-less c = search needs
+loop-less c =
+    let l = c .before .before .before .loop in
+    let h = going-some _ _ _ (l .set) (l .size) (l .left) (l .j) (l .inv) (c .before .before .loop-test .taken) in
+    omega arith
 
 -- src/lib.rt:56:5
 loop-again : tie.Need-loop-again Inv-loop μ-loop
@@ -63,7 +62,10 @@ loop-again c =
 
 -- src/lib.rt:56:5
 loop-less-2 : tie.Need-loop-less-2 Inv-loop μ-loop
-loop-less-2 c = search needs
+loop-less-2 c =
+    let l = c .before .before .before .loop in
+    let h = going-some _ _ _ (l .set) (l .size) (l .left) (l .j) (l .inv) (c .before .before .loop-test .taken) in
+    omega arith
 
 -- src/lib.rt:56:5
 loop-again-2 : tie.Need-loop-again-2 Inv-loop μ-loop
