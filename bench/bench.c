@@ -8,6 +8,7 @@ int main(void)
     bench_partials();
     bench_trays();
     bench_updates();
+    bench_cards();
     bench_records();
     return 0;
 }

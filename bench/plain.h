@@ -1,5 +1,5 @@
-/* Two encoders, a peeler, an update and a partial rebuild as one would write them in plain C. The last two check the card and their arguments, the
- * others nothing. */
+/* Two encoders, a peeler, an update, a partial rebuild and a stepped card as one would write them in plain C. The last three check what they are
+ * given, the others nothing. */
 #ifndef PLAIN_H
 #define PLAIN_H
 
@@ -25,5 +25,9 @@ uint64_t plain_update(struct job *job, size_t disk, const uint8_t *new_strip, si
 /* clears the checks by elimination, so that each lost disk is in as few as can be; sees that the XOR of each check among the survivors is 0; and
  * mends each lost disk that is the only lost one of a check. With the refusals of bridgecrumb_partial_rebuild, in its order and with its answers */
 uint64_t plain_partial_rebuild(struct job *job);
+
+/* goes through all numbers below 2^m for each size, and each number of that size is the next data disk's parity set. With the refusals of
+ * bridgecrumb_card_stepped, in its order */
+uint64_t plain_stepped(size_t d, size_t m, size_t k, uint8_t *out, size_t out_len);
 
 #endif

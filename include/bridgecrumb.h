@@ -47,7 +47,9 @@ enum bridgecrumb_number {
     BRIDGECRUMB_NO_ROOM = 16,      /* an output shorter than the record, or the body of a lost disk */
     BRIDGECRUMB_STRIPE_COUNT = 17, /* a tray of no stripes or of more than 8 */
     BRIDGECRUMB_PARITY_DISK = 18,  /* a parity disk where a data disk is to be rewritten */
-    BRIDGECRUMB_NEW_LENGTH = 19    /* a new strip of another length than the strips */
+    BRIDGECRUMB_NEW_LENGTH = 19,   /* a new strip of another length than the strips */
+    BRIDGECRUMB_DISTANCE = 20,     /* a distance that is neither 3 nor 4 */
+    BRIDGECRUMB_BOUNDS = 21        /* k outside the bounds for the distance and m */
 };
 
 /* Takes a card. Answers k and m in `counts`, and the m columns, then zeros, in `columns`.
@@ -59,6 +61,14 @@ uint64_t bridgecrumb_card_read(const uint8_t *card, size_t card_len, size_t coun
  * Writes the card into the buffer; no value.
  * Refuses 2 to 5 (4: a list that has not m columns), then 7 (a buffer of another length). */
 uint64_t bridgecrumb_card_write(size_t k, size_t m, const uint16_t *columns, size_t columns_len, uint8_t *out, size_t out_len);
+
+/* Takes a distance d of 3 or 4, m, k and a buffer of exactly 2 + 2m bytes.
+ * Writes the card of the Stepped Combination code into the buffer; no value. Data disk i goes into the parity disks of the i-th parity set,
+ * counted from 0: sizes go up from d - 1, by 1 for d = 3 and by 2 for d = 4, smaller size first, then smaller number, where bit j stands
+ * for parity disk k + j. No minimal erasure of the code holds fewer than d disks.
+ * Refuses 2, 3, then 20, then 21 unless 2^(m-1) - m < k <= 2^m - m - 1 for d = 3, or 2^(m-2) - m + 1 < k <= 2^(m-1) - m for d = 4 (no k
+ * where m is 1), then 7 (a buffer of another length). */
+uint64_t bridgecrumb_card_stepped(size_t d, size_t m, size_t k, uint8_t *out, size_t out_len);
 
 /* Takes two cards.
  * The value is 1 where their k, m and vectors are equal, and 0 where they are not.

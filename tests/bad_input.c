@@ -74,6 +74,33 @@ static void cards(void)
     TRY(2, 0, alike(bad, 2, c1, 1));
 }
 
+static void stepped_cards(void)
+{
+    TRY(0, 0, card_stepped(3, 3, 4, lent.out, 8));
+    TRY(0, 0, card_stepped(4, 3, 1, lent.out, 8));
+    TRY(0, 0, card_stepped(4, 6, 16, lent.out, 14));
+    TRY(2, 0, card_stepped(0, 0, 0, NULL, 0));
+    TRY(2, 0, card_stepped(3, 3, 17, lent.out, 8));
+    TRY(2, 0, card_stepped(3, 3, ((size_t)1 << 32) + 4, lent.out, 8));
+    TRY(2, 0, card_stepped(SIZE_MAX, SIZE_MAX, SIZE_MAX, NULL, 0));
+    TRY(3, 0, card_stepped(0, 0, 1, NULL, 0));
+    TRY(3, 0, card_stepped(9, 17, 16, lent.out, 36));
+    TRY(3, 0, card_stepped(3, ((size_t)1 << 63) + 3, 4, lent.out, 8)); /* 2 + 2m is 8 in 64 bits */
+    TRY(3, 0, card_stepped(3, SIZE_MAX, 4, NULL, 0));                  /* and here 0 */
+    TRY(20, 0, card_stepped(0, 1, 1, NULL, 0));
+    TRY(20, 0, card_stepped(5, 3, 16, lent.out, 8));
+    TRY(20, 0, card_stepped(((size_t)1 << 32) + 3, 3, 4, lent.out, 8));
+    TRY(20, 0, card_stepped(SIZE_MAX, 16, 16, lent.out, 34));
+    TRY(21, 0, card_stepped(3, 1, 1, NULL, 0));
+    TRY(21, 0, card_stepped(4, 1, 16, lent.out, 4));
+    TRY(21, 0, card_stepped(3, 3, 5, lent.out, 8));
+    TRY(21, 0, card_stepped(4, 3, 2, lent.out, 9));
+    TRY(21, 0, card_stepped(3, 16, 16, lent.out, 34));
+    TRY(7, 0, card_stepped(3, 3, 4, NULL, 0));
+    TRY(7, 0, card_stepped(3, 3, 4, lent.out, 7));
+    TRY(7, 0, card_stepped(4, 6, 16, lent.out, 15));
+}
+
 static void sets(void)
 {
     TRY(0, 14, verdict(c1, 8, 14));
@@ -208,6 +235,7 @@ static void records(void)
 int main(void)
 {
     cards();
+    stepped_cards();
     sets();
     stripes();
     partial_rebuilds();

@@ -50,6 +50,31 @@ pub fn write_card(k: usize, m: usize, columns: &[u16], out: &mut [u8]) -> Result
     Ok(())
 }
 
+/// Takes a distance d of 3 or 4, m, k and a buffer of exactly 2 + 2m bytes; writes the card of the Stepped Combination
+/// code into the buffer. Data disk i goes into the parity disks of the i-th parity set, counted from 0: sizes go up from
+/// d - 1, by 1 for d = 3 and by 2 for d = 4, smaller size first, then smaller number, where bit j stands for parity
+/// disk k + j. No minimal erasure of the code holds fewer than d disks.
+///
+/// Refuses 2, 3, then 20 where d is neither 3 nor 4, then 21 unless 2^(m-1) - m < k <= 2^m - m - 1 for d = 3, or
+/// 2^(m-2) - m + 1 < k <= 2^(m-1) - m for d = 4 (no k where m is 1), then 7 where the buffer has another length. A
+/// refused call writes nothing.
+///
+/// ```
+/// use bridgecrumb::{write_stepped_card, Error};
+/// // the parity sets are 3, 5, 6 and 7: data disks 0 to 2 have two parity disks each, data disk 3 all three
+/// let mut card = [0; 8];
+/// write_stepped_card(3, 3, 4, &mut card)?;
+/// assert_eq!(card, [4, 3, 0b1011, 0, 0b1101, 0, 0b1110, 0]);
+/// // three parity disks have no fifth set of two or more
+/// assert_eq!(write_stepped_card(3, 3, 5, &mut card), Err(Error::Bounds));
+/// assert_eq!(write_stepped_card(5, 3, 4, &mut card), Err(Error::Distance));
+/// # Ok::<(), Error>(())
+/// ```
+pub fn write_stepped_card(d: usize, m: usize, k: usize, out: &mut [u8]) -> Result<(), Error> {
+    ffi::card_stepped(d, m, k, out)?;
+    Ok(())
+}
+
 /// Takes two cards; answers whether they have the same k, m and vector of minimal erasures.
 ///
 /// Refuses 1 to 5, the first card's faults before the second's. Writes nothing.

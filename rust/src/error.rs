@@ -43,6 +43,10 @@ pub enum Error {
     ParityDisk,
     /// 19: the new strip has another length than the strips.
     NewLength,
+    /// 20: the distance is neither 3 nor 4.
+    Distance,
+    /// 21: k is outside the bounds for the distance and m.
+    Bounds,
 }
 
 impl Error {
@@ -72,6 +76,8 @@ impl Error {
             Error::StripeCount => 17,
             Error::ParityDisk => 18,
             Error::NewLength => 19,
+            Error::Distance => 20,
+            Error::Bounds => 21,
         }
     }
 
@@ -116,6 +122,10 @@ impl fmt::Display for Error {
             Error::StripeCount => out.write_str("the tray has no stripe or more than 8"),
             Error::ParityDisk => out.write_str("the disk is a parity disk"),
             Error::NewLength => out.write_str("the new strip has another length than the strips"),
+            Error::Distance => out.write_str("the distance is neither 3 nor 4"),
+            Error::Bounds => {
+                out.write_str("the number of data disks is outside the bounds for the distance and the parity disks")
+            }
         }
     }
 }

@@ -20,6 +20,7 @@ extern "C" {
         out: *mut u8,
         out_len: usize,
     ) -> u64;
+    pub fn bridgecrumb_card_stepped(d: usize, m: usize, k: usize, out: *mut u8, out_len: usize) -> u64;
     pub fn bridgecrumb_alike(first: *const u8, first_len: usize, second: *const u8, second_len: usize) -> u64;
     pub fn bridgecrumb_encode(
         card: *const u8,
@@ -107,6 +108,8 @@ fn taken(answer: u64) -> Result<usize, Error> {
         17 => Error::StripeCount,
         18 => Error::ParityDisk,
         19 => Error::NewLength,
+        20 => Error::Distance,
+        21 => Error::Bounds,
         number => unreachable!("the archive has no refusal {number}"),
     })
 }
@@ -119,6 +122,11 @@ pub fn card_read(card: &[u8], counts: &mut [usize; 2], columns: &mut [u16; 16]) 
 pub fn card_write(k: usize, m: usize, columns: &[u16], out: &mut [u8]) -> Result<usize, Error> {
     // SAFETY: each slice goes with its own length, and `out` is lent to nobody else
     taken(unsafe { bridgecrumb_card_write(k, m, columns.as_ptr(), columns.len(), out.as_mut_ptr(), out.len()) })
+}
+
+pub fn card_stepped(d: usize, m: usize, k: usize, out: &mut [u8]) -> Result<usize, Error> {
+    // SAFETY: the slice goes with its own length, whatever m is, and is lent to nobody else
+    taken(unsafe { bridgecrumb_card_stepped(d, m, k, out.as_mut_ptr(), out.len()) })
 }
 
 pub fn alike(first: &[u8], second: &[u8]) -> Result<usize, Error> {

@@ -39,7 +39,7 @@ mod records;
 mod sets;
 mod strips;
 
-pub use cards::{alike, read_card, write_card, Card};
+pub use cards::{alike, read_card, write_card, write_stepped_card, Card};
 pub use error::Error;
 pub use records::{body, read_record, write_record, Record};
 pub use sets::{equations, minimal_erasures, undetermined, Listing};

@@ -11,6 +11,8 @@ pub struct Input {
     pub k: usize,
     pub m: usize,
     pub columns: Vec<u16>,
+    /// That of a card from three numbers.
+    pub distance: usize,
     pub strip_len: usize,
     /// A set of disks, the lost ones where a stripe is given.
     pub set: u32,

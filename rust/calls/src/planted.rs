@@ -1,10 +1,13 @@
 //! Faults planted between the drivers and the engine, to see that they are found: BRIDGECRUMB_FAULT names one of them by its number, from 1.
 //! Without it nothing stands between them.
 
+use crate::cards::card_of;
 use crate::input::{bytes_of, Input};
 use crate::lent::{Lent, Place};
-use crate::rows::{cards, records, sets, strips, trays, updates};
+use crate::reference::stepped::{columns, parity_sets};
+use crate::rows::{cards, records, sets, stepped, strips, trays, updates};
 use crate::table::{Engine, Row, TABLE};
+use std::cmp::Reverse;
 use std::env;
 
 /// Whose fault it is.
@@ -35,13 +38,15 @@ pub fn table() -> [Row; TABLE.len()] {
 
 /// Each under a line that says what is wrong.
 #[rustfmt::skip]
-const PLANTED: [Planted; 41] = [
+const PLANTED: [Planted; 42] = [
     // the last wrong column instead of the first
     Archive("card_read", |input, lent| last_wrong_column(input, (cards::READ.engine)(input, lent))),
     // a refusal writes k
     Archive("card_read", |input, lent| after(cards::READ.engine, input, lent, 4, |lent, _| lent.written(0)[0] = 9)),
     // 7 before 5
     Archive("card_write", |input, lent| instead(cards::WRITE.engine, input, lent, 5, input.out_len != input.m.wrapping_mul(2).wrapping_add(2), 7)),
+    // parity sets of one size by their lowest parity disk, then the next
+    Archive("card_stepped", |input, lent| after(stepped::STEPPED.engine, input, lent, 0, |lent, _| lowest_first(input, lent.written(0)))),
     // alike where the lists are only equally long
     Archive("alike", |input, lent| instead(cards::ALIKE.engine, input, lent, 0, equally_long(input), 256)),
     // the last byte of some lengths is left out
@@ -217,6 +222,13 @@ fn last_wrong_column(input: &Input, answer: u64) -> u64 {
         Some(last) if answer % 256 == 5 => 5 + 256 * (last as u64),
         _ => answer,
     }
+}
+
+/// Writes the card of parity sets in lexicographic order.
+fn lowest_first(input: &Input, card: &mut [u8]) {
+    let mut sets = parity_sets(input.distance, input.m);
+    sets.sort_by_key(|set| (set.count_ones(), Reverse(set.reverse_bits())));
+    card.copy_from_slice(&card_of(input.k, input.m, &columns(input.m, &sets[..input.k])));
 }
 
 /// Whether the cards have as many disks and as many minimal erasures.

@@ -3,7 +3,7 @@
 use crate::choice::Choice;
 use crate::input::{Input, Told};
 use crate::lent::{Lent, Place};
-use crate::rows::{cards, records, sets, strips, trays, updates};
+use crate::rows::{cards, records, sets, stepped, strips, trays, updates};
 
 /// A call.
 #[derive(Clone, Copy)]
@@ -37,9 +37,10 @@ pub struct Fault {
 }
 
 /// In the header's order.
-pub const TABLE: [Row; 14] = [
+pub const TABLE: [Row; 15] = [
     cards::READ,
     cards::WRITE,
+    stepped::STEPPED,
     cards::ALIKE,
     strips::ENCODE,
     sets::VERDICT,

@@ -1,8 +1,9 @@
 //! Document 002, sections III-A and III-C: Chain, Stepped Combination and HD-Combination codes, with the
-//! distances that the paper claims for them.
-use crate::codes::{by_size, choose, Code};
+//! distances that the paper claims for them, and the Stepped Combination cards that the engine writes.
+use crate::codes::{by_size, choose, size, Code};
 use crate::graphs::cycles;
 use crate::plain::{compare, shortest_equations};
+use bridgecrumb::{read_card, write_stepped_card, Error};
 
 /// III-A: "each parity equation is the XOR sum of d - 1 contiguous data elements, wrapping around
 /// appropriately after the k-th". The formula beside it sums from i = j to j + d - 1, which is one too
@@ -47,6 +48,11 @@ pub fn combination(kind: Combination, d: usize, k: usize) -> Code {
         rows.extend(next);
     }
     Code::from_rows(m, &rows[..k])
+}
+
+/// The combination of parities of each data disk.
+fn parity_sets(code: &Code) -> Vec<u32> {
+    (0..code.k).map(|i| code.base(i) >> code.k).collect()
 }
 
 /// III-A: "The Chain code construction requires that k = m >= d = 3", and "if k = m >= d = 4, then connect
@@ -152,13 +158,47 @@ fn the_stepped_codes_of_figure_5() {
     for (k, of_each_size) in [(6, [0, 6, 0, 0]), (10, [0, 6, 4, 0]), (11, [0, 6, 4, 1])] {
         let code = combination(Combination::Stepped, 3, k);
         assert_eq!(code.m(), 4);
-        let parities: Vec<u32> = (0..k).map(|i| code.base(i) >> k).collect();
+        let parities = parity_sets(&code);
         assert_eq!(by_size(&parities, 4), of_each_size);
         assert!(parities.windows(2).all(|pair| pair[0].count_ones() <= pair[1].count_ones()));
         // All nonzero columns of a check matrix with m rows are those of the Hamming code of 15 disks: with
         // k = 11 its 35 words of weight 3 (15 * 14 / 6) are the erasures of three disks.
         if k == 11 {
             assert_eq!(code.vector()[2], 35);
+        }
+    }
+}
+
+/// The code of the card that the engine writes for the three numbers.
+fn stepped_card(d: usize, m: usize, k: usize) -> Result<Code, Error> {
+    let mut card = vec![0; 2 + 2 * m];
+    write_stepped_card(d, m, k, &mut card)?;
+    Ok(Code::new(k, &read_card(&card)?.columns[..m]))
+}
+
+/// Document 02's call beside the construction above: it takes the same m and no other, and as many
+/// combinations of each size. Within a size it goes by their numbers; where all of the last size are
+/// taken, the combinations are the same.
+#[test]
+fn stepped_cards_are_of_the_same_combinations() {
+    for d in 3..=4 {
+        for k in 1..=16 {
+            let paper = combination(Combination::Stepped, d, k);
+            let m = paper.m();
+            for other in (1..=16).filter(|&other| other != m) {
+                assert_eq!(stepped_card(d, other, k).unwrap_err(), Error::Bounds, "{:?}, m = {}", paper, other);
+            }
+            let code = stepped_card(d, m, k).unwrap();
+            let [mut ours, mut papers] = [&code, &paper].map(parity_sets);
+            assert_eq!(by_size(&ours, m), by_size(&papers, m), "{:?}", code);
+            let last = size(papers[k - 1]);
+            if by_size(&papers, m)[last - 1] == choose(m, last) {
+                ours.sort_unstable();
+                papers.sort_unstable();
+                assert_eq!(ours, papers, "{:?}", code);
+            }
+            assert_eq!(code.distance(), d, "{:?}", code);
+            compare(&code);
         }
     }
 }

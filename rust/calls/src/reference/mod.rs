@@ -7,6 +7,7 @@
 pub mod literal;
 pub mod quick;
 pub mod records;
+pub mod stepped;
 pub mod strips;
 pub mod trays;
 pub mod updates;
@@ -75,14 +76,20 @@ fn word_held(k: usize, columns: &[u16], word: u32) -> u32 {
     disks
 }
 
-/// Refusals 2 to 5 of a card or of what a card is to be written from; `right_len` is what 4 is about.
-fn check(k: usize, m: usize, right_len: bool, columns: &[u16]) -> Result<(), Refusal> {
+/// Refusals 2 and 3.
+fn check_counts(k: usize, m: usize) -> Result<(), Refusal> {
     if !(1..=16).contains(&k) {
         return refusal(2);
     }
     if !(1..=16).contains(&m) {
         return refusal(3);
     }
+    Ok(())
+}
+
+/// Refusals 2 to 5 of a card or of what a card is to be written from; `right_len` is what 4 is about.
+fn check(k: usize, m: usize, right_len: bool, columns: &[u16]) -> Result<(), Refusal> {
+    check_counts(k, m)?;
     if !right_len {
         return refusal(4);
     }

@@ -5,7 +5,7 @@ use crate::cards::{any_card, any_columns, c1, card_of, every_card};
 use crate::choice::Choice;
 use crate::input::{bytes_of, code, Input, Told};
 use crate::reference;
-use crate::table::Row;
+use crate::table::{Fault, Row};
 use bridgecrumb::ffi;
 
 fn of_card(card: Vec<u8>) -> Input {
@@ -75,10 +75,10 @@ pub const WRITE: Row = Row {
     every: every_write,
     good: || Input { k: 4, m: 3, columns: vec![7, 11, 13], out_len: 8, ..Input::default() },
     faults: || {
-        let wrong = || vec![0, 17, 255, 256 + 3, 65536 + 3, 1 << 32, 1 << 32 | 3, 1 << 63, usize::MAX];
+        let [data, parity] = count_faults();
         vec![
-            ways(2, wrong(), |input, &k| input.k = k),
-            ways(3, wrong(), |input, &m| input.m = m),
+            data,
+            parity,
             ways(4, vec![0, 2, 4, 3 + 256], |input, &len| input.columns.resize(len, 1)),
             ways(5, vec![0, 16, 0x8000], |input, &column| input.columns[0] = column),
             ways(5 + 256, vec![0, 16], |input, &column| input.columns[1..].fill(column)),
@@ -103,8 +103,14 @@ pub const WRITE: Row = Row {
     },
 };
 
+/// Refusals 2 and 3; the right number is 3 or 4, and twice some of these are small in 64 bits.
+pub fn count_faults() -> [Vec<Fault>; 2] {
+    let wrong = || vec![0, 17, 255, 256 + 3, 65536 + 3, 1 << 32, 1 << 32 | 3, 1 << 63, 1 << 63 | 3, usize::MAX];
+    [ways(2, wrong(), |input, &k| input.k = k), ways(3, wrong(), |input, &m| input.m = m)]
+}
+
 /// k or m: mostly right, else wrong by a little or by far.
-fn any_count(choice: &mut Choice) -> usize {
+pub fn any_count(choice: &mut Choice) -> usize {
     match choice.below(12) {
         0 => choice.pick(&[0, 17, 18, 255, 256, 257, 272]),
         1 => choice.far_number(),

@@ -3,6 +3,7 @@
 pub mod cards;
 pub mod records;
 pub mod sets;
+pub mod stepped;
 pub mod strips;
 pub mod trays;
 pub mod updates;

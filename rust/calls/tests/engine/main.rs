@@ -5,5 +5,6 @@ mod drivers;
 mod methods;
 mod partial;
 mod round_trips;
+mod stepped;
 mod updates;
 mod worked;

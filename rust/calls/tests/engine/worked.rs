@@ -10,7 +10,7 @@ use calls::reference::trays;
 use calls::table::TABLE;
 
 /// The call's answer and what it writes.
-fn worked(name: &str, input: Input, answer: u64, written: Vec<Vec<u8>>) {
+pub fn worked(name: &str, input: Input, answer: u64, written: Vec<Vec<u8>>) {
     let row = TABLE.iter().find(|row| row.name == name).expect("a call of this name");
     assert_eq!((row.reference)(&input), Told { answer, written }, "{name}, {input:?}");
     let mut lent = Lent::new();
@@ -251,6 +251,8 @@ fn numbers_and_values() {
         Error::StripeCount,
         Error::ParityDisk,
         Error::NewLength,
+        Error::Distance,
+        Error::Bounds,
     ];
     for (error, number) in all.iter().zip(1..) {
         let value = match number {
