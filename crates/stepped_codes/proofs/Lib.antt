@@ -8,3 +8,4 @@ pub mod Stepping
 pub mod Covering
 pub mod Codes
 pub mod Calls
+pub mod Impostors

@@ -2,3 +2,4 @@ pub mod Stepped
 pub mod Faults
 pub mod Placing
 pub mod Theorems
+pub mod Impostors
