@@ -45,6 +45,7 @@ pub row-first : (n : ℕ) → n ≡ 0 → 1 ≡ packed n
 unfolding packed
 row-first n e = rw e
 
+-- the row above, and the same a byte up
 pub row-next : (n above : ℕ) → (n ≡ 0 → ⊥) → n ≤ 7 → above ≡ packed (n - 1) → above + 256 * above ≡ packed n
 row-next zero above f l e = absurd (f refl)
 row-next (suc p) above f l e =

@@ -22,7 +22,7 @@ mul-if2 c = search needs
 
 -- src/lib.rt:46:13
 returns : tie.Need-returns
-returns c = three-low _ _ _ _ (one-shifted-in 64 _ (omega arith)) (c .before .if1 .taken) (c .if2 .taken)
+returns c = three-low _ _ _ _ (one-shifted-in 64 _ (omega arith)) (c .before .if1 .taken) (omega arith)
 
 -- src/lib.rt:48:16
 add-result : tie.Need-add-result
@@ -30,7 +30,7 @@ add-result c = search needs
 
 -- src/lib.rt:48:9
 returns-2 : tie.Need-returns-2
-returns-2 c = three-high _ _ _ _ (one-shifted-in 64 _ (omega arith)) (c .before .if1 .taken) (c .if2 .left)
+returns-2 c = three-high _ _ _ _ (one-shifted-in 64 _ (omega arith)) (c .before .if1 .taken) (omega arith)
 
 -- src/lib.rt:50:8
 mul-if3 : tie.Need-mul-if3
@@ -42,7 +42,7 @@ add-if3 c = let m = c .before .args .m in omega (arith, one-shifted-in 64 m (ome
 
 -- src/lib.rt:51:9
 returns-3 : tie.Need-returns-3
-returns-3 c = four-low _ _ _ _ (one-shifted-in 64 _ (omega arith)) (c .before .if1 .left) (c .if3 .taken)
+returns-3 c = four-low _ _ _ _ (one-shifted-in 64 _ (omega arith)) (c .before .if1 .left) (omega arith)
 
 -- src/lib.rt:53:5
 mul-result : tie.Need-mul-result
@@ -50,7 +50,7 @@ mul-result c = search needs
 
 -- src/lib.rt:38:1
 returns-4 : tie.Need-returns-4
-returns-4 c = four-high _ _ _ _ (one-shifted-in 64 _ (omega arith)) (c .before .if1 .left) (c .if3 .left)
+returns-4 c = four-high _ _ _ _ (one-shifted-in 64 _ (omega arith)) (c .before .if1 .left) (omega arith)
 
 pub within-bounds-spec : {M : Type 1} → statement M
 within-bounds-spec =

@@ -48,7 +48,8 @@ row-add-result t c =
 
 -- src/lib.rt:16:1
 row-returns-2 : (t : ℕ) → row-lts.Need-returns-2 (row-below t, row.Post) (row-at t) row.Post
-row-returns-2 t c = row-next _ _ (c .before .if1 .left) (omega arith) (c .row .ensures)
+row-returns-2 t c =
+    omega (arith, row-next (c .before .before .args .n) _ (c .before .if1 .left) (omega arith) (c .row .ensures))
 
 pub +row-spec : {M : Type 1} → statement M
 +row-spec =

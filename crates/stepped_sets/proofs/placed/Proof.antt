@@ -40,7 +40,7 @@ add-set : tie.Need-add-set Inv-loop μ-loop
 add-set c =
     let e = c .before .before .before .before in
     let l = c .before .before .before .loop in
-    let f = going-fits (e .args .m) (e .args .s) (e .args .i) (l .set) (l .size) (l .left) (l .j) _ (l .inv) (omega arith) (c .before .choose .ensures) (e .pre .1) (c .if1 .taken) in
+    let f = going-fits (e .args .m) (e .args .s) (e .args .i) (l .set) (l .size) (l .left) (l .j) _ (l .inv) (omega arith) (c .before .choose .ensures) (e .pre .1) (omega arith) in
     omega (arith, one-shifted (l .j - 1) (omega arith), f)
 
 -- src/lib.rt:61:13
@@ -58,7 +58,7 @@ loop-less c =
 loop-again : tie.Need-loop-again Inv-loop μ-loop
 loop-again c =
     let l = c .before .before .before .loop in
-    going-high _ _ _ (l .set) (l .size) (l .left) (l .j) _ (l .inv) (omega arith) (c .before .choose .ensures) _ (one-shifted (l .j - 1) (omega arith)) (c .if1 .taken)
+    going-high _ _ _ (l .set) (l .size) (l .left) (l .j) _ (l .inv) (omega arith) (c .before .choose .ensures) _ (one-shifted (l .j - 1) (omega arith)) (omega arith)
 
 -- src/lib.rt:56:5
 loop-less-2 : tie.Need-loop-less-2 Inv-loop μ-loop
@@ -71,7 +71,7 @@ loop-less-2 c =
 loop-again-2 : tie.Need-loop-again-2 Inv-loop μ-loop
 loop-again-2 c =
     let l = c .before .before .before .loop in
-    going-low _ _ _ (l .set) (l .size) (l .left) (l .j) _ (l .inv) (omega arith) (c .before .choose .ensures) (c .if1 .left)
+    going-low _ _ _ (l .set) (l .size) (l .left) (l .j) _ (l .inv) (omega arith) (c .before .choose .ensures) (omega arith)
 
 -- src/lib.rt:48:1
 returns : tie.Need-returns Inv-loop μ-loop
