@@ -10,7 +10,7 @@ use lib.Dec.{T, eqb, leb, ltb}
 use lib.ListN.{length}
 use Rattle.gf2.specs.If.{if_then_else_}
 use Rattle.gf2.proofs.Tests.{ltb-in, ltb-out, leb-in, leb-out, and-in, and-out, below-or}
-use Rattle.stepped_codes.specs.Stepped.{distanceOk, paritySets, withinBounds}
+use Rattle.stepped_codes.specs.Stepped.{paritySets, withinBounds}
 use Rattle.stepped_codes.specs.Theorems.{BoundsPrinted, BoundsCount, SixAtMost}
 use Rattle.stepped_codes.proofs.Sizes.{three-or-four}
 use Rattle.stepped_codes.proofs.Listed.{parity-set-counts}

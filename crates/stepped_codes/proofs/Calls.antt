@@ -1,6 +1,6 @@
 -- What an accepted call does: it writes what the card writer would, and the card reader and the lister take that as the theorems say.
 -- Assumes nothing.
-use mathlib.Core.Path.{_≡_, refl, sym, ap, _∙_, subst}
+use mathlib.Core.Path.{_≡_, sym, ap, _∙_, subst}
 use mathlib.Core.Bool.{true, not}
 use mathlib.Core.List.{List, [], _∷_}
 use Prim.Native.Nat.{ℕ, zero, suc, _≤_, _<_}
@@ -25,7 +25,7 @@ use Rattle.flat.proofs.Verdicts.{erasures-written}
 use Rattle.flat.proofs.Theorems.{card-reads-back, fatal-holds-listed}
 use Rattle.stepped_codes.specs.Stepped.{distanceOk, paritySets, paritySet, steppedColumn, stepped, withinBounds}
 use Rattle.stepped_codes.specs.Faults.{steppedReport, steppedBuffer}
-use Rattle.stepped_codes.specs.Theorems.{RightStepped, SteppedAccepted}
+use Rattle.stepped_codes.specs.Theorems.{SteppedAccepted}
 use Rattle.stepped_codes.proofs.Bounds.{no-parity}
 use Rattle.stepped_codes.proofs.Codes.{distance, enough, stepped-sound, least-fatal}
 

@@ -4,7 +4,7 @@ use mathlib.Core.Path.{_≡_, refl, sym, ap, _∙_, subst}
 use mathlib.Core.Bool.{Bool, true}
 use mathlib.Core.Logic.{_⊎_, inl, inr, _≢_, ⊎-elim}
 use mathlib.Core.List.{List, _∷_}
-use Prim.Native.Nat.{ℕ, zero, suc, _+_, _-_, _*_, _%_, _^_, _≤_, _<_}
+use Prim.Native.Nat.{ℕ, zero, suc, _+_, _-_, _%_, _^_, _≤_, _<_}
 use native.Mathlib.Omega.{arith}
 use borrow.Author.Tests.{lt-ltb}
 use lib.Dec.{T, eqb, leb, ltb}
@@ -17,7 +17,7 @@ use Rattle.gf2.proofs.Subsets.{⊆-refl}
 use Rattle.gf2.proofs.Sizes.{size-lt, size-power}
 use Rattle.gf2.proofs.Sums.{over-disk}
 use Rattle.flat.specs.Lists.{setOf, range, tabulate}
-use Rattle.flat.specs.Cards.{Code, countOk, columnOk, firstBad}
+use Rattle.flat.specs.Cards.{Code, countOk, columnOk}
 use Rattle.flat.specs.Erasures.{fatal}
 use Rattle.flat.specs.Spans.{codeword}
 use Rattle.flat.proofs.Lists.{length-tabulate, getD-tabulate}

@@ -10,7 +10,7 @@ use lib.ListN.{length, getD}
 use Rattle.gf2.specs.Sets.{size}
 use Rattle.gf2.proofs.Tests.{below-or}
 use Rattle.gf2.proofs.Sizes.{size-lt}
-use Rattle.flat.specs.Lists.{range, filter, orderedBy}
+use Rattle.flat.specs.Lists.{range}
 use Rattle.flat.proofs.Members.{In, in-at, range-in, range-out, filter-in, filter-out, ordered-in, ordered-out}
 use Rattle.flat.proofs.Order.{Lex, Sorted, sorted-at, sorted-filter, sorted-range, sorted-ordered}
 use Rattle.flat.proofs.Totals.{ordered-whole}

@@ -3,10 +3,9 @@
 use mathlib.Core.Path.{_≡_}
 use mathlib.Core.Bool.{Bool, true, false, _&&_}
 use mathlib.Core.List.{List, [], _∷_}
-use Prim.Native.Nat.{ℕ, suc, _+_, _-_, _*_, _^_}
+use Prim.Native.Nat.{ℕ, suc, _+_, _-_, _^_}
 use lib.Dec.{eqb, leb, ltb}
 use lib.ListN.{take}
-use Rattle.gf2.specs.If.{if_then_else_}
 use Rattle.gf2.specs.Sets.{has, size}
 use Rattle.flat.specs.Lists.{setOf, range, filter, orderedBy}
 use Rattle.flat.specs.Cards.{code}

@@ -11,7 +11,7 @@ use Rattle.flat.specs.Lists.{range, filter, member}
 use Rattle.flat.specs.Cards.{codeOf, column}
 use Rattle.flat.specs.Erasures.{fatal}
 use Rattle.flat.specs.Faults.{accepted, cardReport, erasuresReport, erasuresSlice}
-use Rattle.stepped_codes.specs.Stepped.{step, distanceOk, sizeOk, paritySets, paritySet, stepped, choose, withinBounds}
+use Rattle.stepped_codes.specs.Stepped.{distanceOk, sizeOk, paritySets, paritySet, stepped, choose, withinBounds}
 use Rattle.stepped_codes.specs.Faults.{steppedReport, steppedBuffer}
 use Rattle.stepped_codes.specs.Placing.{placed, placedAmong, sizes}
 

@@ -1,14 +1,10 @@
 -- Placing a set, disk by disk from the highest down, and finding a parity set's size.
 -- Assumes nothing.
 use mathlib.Core.Path.{_≡_, refl, sym, ap, _∙_}
-use mathlib.Core.List.{List, [], _∷_}
-use Prim.Native.Nat.{ℕ, zero, suc, _+_, _-_, _*_, _%_, _^_, _≤_, _<_}
+use Prim.Native.Nat.{ℕ, zero, suc, _+_, _-_, _^_, _≤_, _<_}
 use native.Mathlib.Omega.{arith}
 use borrow.Author.Tests.{lt-ltb}
-use lib.Dec.{T}
-use lib.ListN.{length}
 use lib.Pow.{pow-mono}
-use Rattle.gf2.proofs.Bits.{one-shifted}
 use Rattle.stepped_codes.specs.Stepped.{choose}
 use Rattle.stepped_codes.specs.Placing.{placed}
 use Rattle.stepped_codes.proofs.Placing.{choose-none, choose-suc}

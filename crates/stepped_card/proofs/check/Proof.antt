@@ -33,57 +33,45 @@ first c = c .before .before .before .before
 abbrev second : tie.Else3 → tie.Else2
 second c = c .before .before
 
--- src/lib.rt:60:9
 count-ok-requires : tie.Need-count-ok-requires
 count-ok-requires c κs = search needs
 
--- src/lib.rt:61:9
 returns : tie.Need-returns
 returns c = report-data _ _ _ _ (sym (c .before .count-ok .ensures) ∙ not-true _ (c .if1 .taken))
 
--- src/lib.rt:63:9
 count-ok-requires-2 : tie.Need-count-ok-requires-2
 count-ok-requires-2 c κs = search needs
 
--- src/lib.rt:64:9
 returns-2 : tie.Need-returns-2
 returns-2 c = report-parity _ _ _ _ (k-good (c .before .before)) (sym (c .before .count-ok2 .ensures) ∙ not-true _ (c .if2 .taken))
 
--- src/lib.rt:66:9
 distance-ok-requires : tie.Need-distance-ok-requires
 distance-ok-requires c κs = search needs
 
--- src/lib.rt:67:9
 returns-3 : tie.Need-returns-3
 returns-3 c =
     report-distance _ _ _ _ (k-good (c .before .before .before .before)) (m-good (c .before .before)) (sym (c .before .distance-ok .ensures) ∙ not-true _ (c .if3 .taken))
 
--- src/lib.rt:69:9
 within-bounds-requires : tie.Need-within-bounds-requires
 within-bounds-requires c κs = (count-in _ (m-good (second c)) .1, count-in _ (k-good (first c)) .1)
 
--- src/lib.rt:70:9
 returns-4 : tie.Need-returns-4
 returns-4 c =
     let e = c .before .before in
     report-bounds _ _ _ _ (k-good (first e)) (m-good (second e)) (d-good e) (sym (c .before .within-bounds .ensures) ∙ not-true _ (c .if4 .taken))
 
--- src/lib.rt:72:17
 mul-if5 : tie.Need-mul-if5
 mul-if5 c = let m = count-in _ (m-good (second (c .before .before))) in omega arith
 
--- src/lib.rt:72:13
 add-if5 : tie.Need-add-if5
 add-if5 c = let m = count-in _ (m-good (second (c .before .before))) in omega arith
 
--- src/lib.rt:73:9
 returns-5 : tie.Need-returns-5
 returns-5 c =
     let w = c .before in
     let e = w .before .before in
     report-buffer _ _ _ _ (k-good (first e)) (m-good (second e)) (d-good e) (w-good w) (c .if5 .taken)
 
--- src/lib.rt:57:1
 returns-6 : tie.Need-returns-6
 returns-6 c =
     let w = c .before in

@@ -29,45 +29,35 @@ Inv-loop sets k j c₀ i₀ c i = (i ≤ k) × (c ≡ setOf i (named sets j))
 abbrev μ-loop : tie.MeasureT-loop
 μ-loop sets k j c₀ i₀ c i = k - i
 
--- src/lib.rt:84:5
 loop-holds : tie.Need-loop-holds Inv-loop μ-loop
 loop-holds c = (omega arith, none-named (now (c .args .sets)) (c .args .j))
 
--- src/lib.rt:85:21
 mul-has : tie.Need-mul-has Inv-loop μ-loop
 mul-has c = search needs
 
--- src/lib.rt:85:21
 element-copy-out-has : tie.Need-element-copy-out-has Inv-loop μ-loop
 element-copy-out-has c = search needs
 
--- src/lib.rt:85:12
 has-requires : tie.Need-has-requires Inv-loop μ-loop
 has-requires c κs = search needs
 
--- src/lib.rt:86:26
 cast-c : tie.Need-cast-c Inv-loop μ-loop
 cast-c c = search needs
 
--- src/lib.rt:86:18
 shl-c : tie.Need-shl-c Inv-loop μ-loop
 shl-c c = search needs
 
--- src/lib.rt:86:13
 add-c : tie.Need-add-c Inv-loop μ-loop
 add-c c =
     let a = c .before .before .before .before .before .args in
     record { fits = set-fits _ _ (named (now (a .sets)) (a .j)) (c .before .before .before .before .loop .inv .1) 16 (omega arith) }
 
--- src/lib.rt:84:9
 add-i : tie.Need-add-i Inv-loop μ-loop
 add-i c = search needs
 
--- src/lib.rt:84:5
 loop-less : tie.Need-loop-less Inv-loop μ-loop
 loop-less c = search needs
 
--- src/lib.rt:84:5
 loop-again : tie.Need-loop-again Inv-loop μ-loop
 loop-again c =
     let a = c .before .before .before .before .before .args in
@@ -78,7 +68,6 @@ loop-again c =
           (λ w. w .1 ∙ set-same _ _ (named (now (a .sets)) (a .j)) (l .inv .1) (h ∙ w .0 .left)) (c .if1 .came),
     )
 
--- src/lib.rt:79:1
 returns : tie.Need-returns Inv-loop μ-loop
 returns c =
     let a = c .before .before .args in

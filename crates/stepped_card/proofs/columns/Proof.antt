@@ -17,41 +17,32 @@ Inv-loop d m k sets out₀ j₀ out j = (j ≤ m) × (length out ≡ 16) × (out
 abbrev μ-loop : tie.MeasureT-loop
 μ-loop d m k sets out₀ j₀ out j = m - j
 
--- src/lib.rt:97:9
 sets-requires : tie.Need-sets-requires Inv-loop μ-loop
 sets-requires c κs = search needs
 
--- src/lib.rt:99:5
 loop-holds : tie.Need-loop-holds Inv-loop μ-loop
 loop-holds c = (omega arith, refl, fill-none 16 _)
 
--- src/lib.rt:100:34
 cast-column : tie.Need-cast-column Inv-loop μ-loop
 cast-column c = search needs
 
--- src/lib.rt:100:18
 column-requires : tie.Need-column-requires Inv-loop μ-loop
 column-requires c κs =
     let s = c .before .before .before in
     (sets-long _ _ _ _ (s .before .pre .2) (s .sets .ensures), omega arith, omega arith)
 
--- src/lib.rt:100:9
 mul-out : tie.Need-mul-out Inv-loop μ-loop
 mul-out c = search needs
 
--- src/lib.rt:100:9
 array-write-out : tie.Need-array-write-out Inv-loop μ-loop
 array-write-out c = search needs
 
--- src/lib.rt:99:9
 add-j : tie.Need-add-j Inv-loop μ-loop
 add-j c = search needs
 
--- src/lib.rt:99:5
 loop-less : tie.Need-loop-less Inv-loop μ-loop
 loop-less c = search needs
 
--- src/lib.rt:99:5
 loop-again : tie.Need-loop-again Inv-loop μ-loop
 loop-again c =
     let l = c .before .before .before .loop in
@@ -62,7 +53,6 @@ loop-again c =
       fill-more 16 (l .j) _ (steppedColumn (a .d) (a .m) (a .k)) _ (omega arith) (l .inv .2) (column-is _ _ _ _ _ _ (s .sets .ensures) (c .column .ensures)),
     )
 
--- src/lib.rt:93:1
 returns : tie.Need-returns Inv-loop μ-loop
 returns c =
     let a = c .before .before .before .args in

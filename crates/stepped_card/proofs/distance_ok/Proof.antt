@@ -3,11 +3,9 @@ use Rattle.stepped_card.proofs.Laws.{distance-three, distance-four}
 use Rattle.stepped_card.proofs.distance_ok.Statement.{statement}
 use Rattle.stepped_card.proofs.distance_ok.Tie as tie
 
--- src/lib.rt:32:9
 returns : tie.Need-returns
 returns c = distance-three _ (c .if1 .taken)
 
--- src/lib.rt:28:1
 returns-2 : tie.Need-returns-2
 returns-2 c = distance-four _ (c .if1 .left)
 

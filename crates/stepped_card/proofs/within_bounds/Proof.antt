@@ -1,5 +1,4 @@
 -- within_bounds meets its contract. Assumes nothing.
-use mathlib.Core.Path.{_≡_}
 use native.Mathlib.Omega.{arith}
 use borrow.Author.Needs.{needs}
 use lib.Pow.{pow-mono}
@@ -8,47 +7,36 @@ use Rattle.stepped_card.proofs.Laws.{three-low, three-high, four-low, f
 use Rattle.stepped_card.proofs.within_bounds.Statement.{statement}
 use Rattle.stepped_card.proofs.within_bounds.Tie as tie
 
--- src/lib.rt:42:15
 shl-all : tie.Need-shl-all
 shl-all c = search needs
 
--- src/lib.rt:43:13
 add-n : tie.Need-add-n
 add-n c = search needs
 
--- src/lib.rt:45:12
 mul-if2 : tie.Need-mul-if2
 mul-if2 c = search needs
 
--- src/lib.rt:46:13
 returns : tie.Need-returns
 returns c = three-low _ _ _ _ (one-shifted-in 64 _ (omega arith)) (c .before .if1 .taken) (omega arith)
 
--- src/lib.rt:48:16
 add-result : tie.Need-add-result
 add-result c = search needs
 
--- src/lib.rt:48:9
 returns-2 : tie.Need-returns-2
 returns-2 c = three-high _ _ _ _ (one-shifted-in 64 _ (omega arith)) (c .before .if1 .taken) (omega arith)
 
--- src/lib.rt:50:8
 mul-if3 : tie.Need-mul-if3
 mul-if3 c = search needs
 
--- src/lib.rt:50:17
 add-if3 : tie.Need-add-if3
 add-if3 c = let m = c .before .args .m in omega (arith, one-shifted-in 64 m (omega arith), pow-mono {i = m} {j = 16} (omega arith))
 
--- src/lib.rt:51:9
 returns-3 : tie.Need-returns-3
 returns-3 c = four-low _ _ _ _ (one-shifted-in 64 _ (omega arith)) (c .before .if1 .left) (omega arith)
 
--- src/lib.rt:53:5
 mul-result : tie.Need-mul-result
 mul-result c = search needs
 
--- src/lib.rt:38:1
 returns-4 : tie.Need-returns-4
 returns-4 c = four-high _ _ _ _ (one-shifted-in 64 _ (omega arith)) (c .before .if1 .left) (omega arith)
 

@@ -17,85 +17,67 @@ done : (c : tie.After-enum-told) →
     accepted [] ≡ steppedReport (a .d) (a .m) (a .k) (length (now (a .out)))
 done c = ap report (sym (c .enum-told .given .1)) ∙ c .before .before .check .ensures
 
--- src/lib.rt:110:9
 check-requires : tie.Need-check-requires
 check-requires c κs = search needs
 
--- src/lib.rt:113:23
 enum-told : tie.Need-enum-told
 enum-told c = search needs
 
--- src/lib.rt:113:23
 columns-requires : tie.Need-columns-requires
 columns-requires c κs = asked _ _ _ _ (done c)
 
--- src/lib.rt:114:46
 array-share-prefix-all : tie.Need-array-share-prefix-all
 array-share-prefix-all c = prefix-fits _ _ _ _ (c .columns .ensures)
 
--- src/lib.rt:114:46
 slice-aggregate-write : tie.Need-slice-aggregate-write
 slice-aggregate-write c = length-columns _ _ _ _ (c .before .columns .ensures)
 
--- src/lib.rt:114:21
 write-requires : tie.Need-write-requires
 write-requires c κs = search needs
 
--- src/lib.rt:117:38
 enum-told-2 : tie.Need-enum-told-2
 enum-told-2 c = search needs
 
--- src/lib.rt:118:40
 enum-told-3 : tie.Need-enum-told-3
 enum-told-3 c = search needs
 
--- src/lib.rt:119:37
 enum-told-4 : tie.Need-enum-told-4
 enum-told-4 c = search needs
 
--- src/lib.rt:120:35
 enum-told-5 : tie.Need-enum-told-5
 enum-told-5 c = search needs
 
--- src/lib.rt:121:35
 enum-told-6 : tie.Need-enum-told-6
 enum-told-6 c = search needs
 
--- src/lib.rt:106:1
 same-length : tie.Need-same-length
 same-length c = search needs
 
--- src/lib.rt:106:1
 returns : tie.Need-returns
 returns c =
     let e = c .before .before .before .before .before .before in
     (e .before .before .check .ensures, c .before .before .write .ensures .1 ∙ buffer-done _ _ _ _ (c .before .before .before .before .before .columns .ensures) _ (done e))
 
--- src/lib.rt:106:1
 returns-2 : tie.Need-returns-2
 returns-2 c =
     let w = c .before .before .check .ensures in
     (w, buffer-kept 1 _ _ _ _ (ap report (sym (c .enum-told2 .given .1)) ∙ w))
 
--- src/lib.rt:106:1
 returns-3 : tie.Need-returns-3
 returns-3 c =
     let w = c .before .before .check .ensures in
     (w, buffer-kept 2 _ _ _ _ (ap report (sym (c .enum-told3 .given .1)) ∙ w))
 
--- src/lib.rt:106:1
 returns-4 : tie.Need-returns-4
 returns-4 c =
     let w = c .before .before .check .ensures in
     (w, buffer-kept 19 _ _ _ _ (ap report (sym (c .enum-told4 .given .1)) ∙ w))
 
--- src/lib.rt:106:1
 returns-5 : tie.Need-returns-5
 returns-5 c =
     let w = c .before .before .check .ensures in
     (w, buffer-kept 20 _ _ _ _ (ap report (sym (c .enum-told5 .given .1)) ∙ w))
 
--- src/lib.rt:106:1
 returns-6 : tie.Need-returns-6
 returns-6 c =
     let w = c .before .before .check .ensures in

@@ -20,33 +20,27 @@ row-at t = and 0 row-kinds.ps (is 0 row-kinds.ps μ-row t) row.Pre
 abbrev row-below : ℕ → In 0 row-kinds.ps
 row-below t = and 0 row-kinds.ps (falls 0 row-kinds.ps _<_ μ-row t) row.Pre
 
--- src/lib.rt:21:9
 row-returns : (t : ℕ) → row-lts.Need-returns (row-below t, row.Post) (row-at t) row.Post
 row-returns t c = row-first _ (c .if1 .taken)
 
--- src/lib.rt:23:21
 row-sub-row : (t : ℕ) → row-lts.Need-sub-row (row-below t, row.Post) (row-at t) row.Post
 row-sub-row t c = search needs
 
--- src/lib.rt:23:9
 row-row-requires : (t : ℕ) → row-lts.Need-row-requires (row-below t, row.Post) (row-at t) row.Post
 row-row-requires t c κs = omega arith
 
--- src/lib.rt:24:13
 row-mul-result : (t : ℕ) → row-lts.Need-mul-result (row-below t, row.Post) (row-at t) row.Post
 row-mul-result t c =
     let n = c .before .before .args .n in
     let is = row-next n _ (c .before .if1 .left) (omega arith) (c .row .ensures) in
     omega (arith, is, row-fits n (omega arith))
 
--- src/lib.rt:24:5
 row-add-result : (t : ℕ) → row-lts.Need-add-result (row-below t, row.Post) (row-at t) row.Post
 row-add-result t c =
     let n = c .before .before .args .n in
     let is = row-next n _ (c .before .if1 .left) (omega arith) (c .row .ensures) in
     omega (arith, is, row-fits n (omega arith))
 
--- src/lib.rt:16:1
 row-returns-2 : (t : ℕ) → row-lts.Need-returns-2 (row-below t, row.Post) (row-at t) row.Post
 row-returns-2 t c =
     omega (arith, row-next (c .before .before .args .n) _ (c .before .if1 .left) (omega arith) (c .row .ensures))

@@ -2,7 +2,6 @@
 use mathlib.Core.Path.{_≡_, _∙_}
 use Prim.Native.Nat.{_+_, _-_, _≤_}
 use native.Mathlib.Omega.{arith}
-use borrow.Author.Needs.{needs}
 use Rattle.stepped_codes.specs.Stepped.{choose}
 use Rattle.stepped_codes.proofs.Sizes.{distance-in}
 use Rattle.stepped_sets.proofs.Finding.{Finding, step-is, finding-first, finding-size, finding-next, finding-end}
@@ -33,48 +32,38 @@ next-size c =
     let s = c .before .before .before in
     finding-size (s .args .d) (s .args .m) (s .args .i) (s .pre .1) _ _ (next c)
 
--- src/lib.rt:73:20
 sub-size : tie.Need-sub-size Inv-loop μ-loop
 sub-size c = omega (arith, distance-in (c .args .d) (c .pre .1))
 
--- src/lib.rt:75:9
 choose-requires : tie.Need-choose-requires Inv-loop μ-loop
 choose-requires c κs = (c .pre .0, omega arith, omega (arith, distance-in (c .args .d) (c .pre .1)))
 
--- src/lib.rt:76:5
 loop-holds : tie.Need-loop-holds Inv-loop μ-loop
 loop-holds c = (c .choose .ensures, finding-first _ _ _ (c .before .pre .1) (c .before .pre .3))
 
--- src/lib.rt:78:17
 sub-size-2 : tie.Need-sub-size-2 Inv-loop μ-loop
 sub-size-2 c = let s = c .before .before .before in omega (arith, distance-in (s .args .d) (s .pre .1))
 
--- src/lib.rt:78:9
 add-size : tie.Need-add-size Inv-loop μ-loop
 add-size c = omega (arith, next-size c)
 
--- src/lib.rt:79:9
 choose-requires-2 : tie.Need-choose-requires-2 Inv-loop μ-loop
 choose-requires-2 c κs = (c .before .before .before .pre .0, omega arith, omega (arith, next-size c))
 
--- src/lib.rt:76:5
 loop-less : tie.Need-loop-less Inv-loop μ-loop
 loop-less c =
     let s = c .before .before .before .before in
     omega (arith, next-size (c .before), distance-in (s .args .d) (s .pre .1))
 
--- src/lib.rt:76:5
 loop-again : tie.Need-loop-again Inv-loop μ-loop
 loop-again c = (c .choose2 .ensures, next (c .before))
 
--- src/lib.rt:81:5
 placed-requires : tie.Need-placed-requires Inv-loop μ-loop
 placed-requires c κs =
     let s = c .before .before .before in
     let l = c .before .loop in
     (s .pre .0, omega arith, omega (arith, finding-size (s .args .d) (s .args .m) (s .args .i) (s .pre .1) (l .size) (l .left) (l .inv .1)), omega (arith, l .inv .0))
 
--- src/lib.rt:69:1
 returns : tie.Need-returns Inv-loop μ-loop
 returns c =
     let s = c .before .before .before .before in

@@ -15,27 +15,21 @@ Inv-loop rows m s i set₀ size₀ left₀ j₀ set size left j = Going m s i se
 abbrev μ-loop : tie.MeasureT-loop
 μ-loop rows m s i set₀ size₀ left₀ j₀ set size left j = j
 
--- src/lib.rt:56:5
 loop-holds : tie.Need-loop-holds Inv-loop μ-loop
 loop-holds c = (omega arith, omega arith, c .pre .3, zero-add (placed _ _ _))
 
--- src/lib.rt:57:9
 sub-j : tie.Need-sub-j Inv-loop μ-loop
 sub-j c = let l = c .before .loop in going-some _ _ _ (l .set) (l .size) (l .left) (l .j) (l .inv) (c .loop-test .taken)
 
--- src/lib.rt:58:13
 choose-requires : tie.Need-choose-requires Inv-loop μ-loop
 choose-requires c κs = search needs
 
--- src/lib.rt:60:28
 cast-set : tie.Need-cast-set Inv-loop μ-loop
 cast-set c = search needs
 
--- src/lib.rt:60:20
 shl-set : tie.Need-shl-set Inv-loop μ-loop
 shl-set c = search needs
 
--- src/lib.rt:60:13
 add-set : tie.Need-add-set Inv-loop μ-loop
 add-set c =
     let e = c .before .before .before .before in
@@ -43,37 +37,31 @@ add-set c =
     let f = going-fits (e .args .m) (e .args .s) (e .args .i) (l .set) (l .size) (l .left) (l .j) _ (l .inv) (omega arith) (c .before .choose .ensures) (e .pre .1) (omega arith) in
     omega (arith, one-shifted (l .j - 1) (omega arith), f)
 
--- src/lib.rt:61:13
 sub-size : tie.Need-sub-size Inv-loop μ-loop
 sub-size c = search needs
 
--- src/lib.rt:56:5
 loop-less : tie.Need-loop-less Inv-loop μ-loop
 loop-less c =
     let l = c .before .before .before .loop in
     let h = going-some _ _ _ (l .set) (l .size) (l .left) (l .j) (l .inv) (c .before .before .loop-test .taken) in
     omega arith
 
--- src/lib.rt:56:5
 loop-again : tie.Need-loop-again Inv-loop μ-loop
 loop-again c =
     let l = c .before .before .before .loop in
     going-high _ _ _ (l .set) (l .size) (l .left) (l .j) _ (l .inv) (omega arith) (c .before .choose .ensures) _ (one-shifted (l .j - 1) (omega arith)) (omega arith)
 
--- src/lib.rt:56:5
 loop-less-2 : tie.Need-loop-less-2 Inv-loop μ-loop
 loop-less-2 c =
     let l = c .before .before .before .loop in
     let h = going-some _ _ _ (l .set) (l .size) (l .left) (l .j) (l .inv) (c .before .before .loop-test .taken) in
     omega arith
 
--- src/lib.rt:56:5
 loop-again-2 : tie.Need-loop-again-2 Inv-loop μ-loop
 loop-again-2 c =
     let l = c .before .before .before .loop in
     going-low _ _ _ (l .set) (l .size) (l .left) (l .j) _ (l .inv) (omega arith) (c .before .choose .ensures) (omega arith)
 
--- src/lib.rt:48:1
 returns : tie.Need-returns Inv-loop μ-loop
 returns c = going-end _ _ _ _ _ _ _ (c .before .loop .inv) (omega arith)
 

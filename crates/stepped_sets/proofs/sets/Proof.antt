@@ -16,43 +16,34 @@ Inv-loop d m k rows out₀ i₀ out i = (i ≤ k) × (length out ≡ 16) × (out
 abbrev μ-loop : tie.MeasureT-loop
 μ-loop d m k rows out₀ i₀ out i = k - i
 
--- src/lib.rt:89:9
 triangle-requires : tie.Need-triangle-requires Inv-loop μ-loop
 triangle-requires c κs = search needs
 
--- src/lib.rt:91:5
 loop-holds : tie.Need-loop-holds Inv-loop μ-loop
 loop-holds c = (omega arith, refl, fill-none 16 _)
 
--- src/lib.rt:92:18
 parity-set-requires : tie.Need-parity-set-requires Inv-loop μ-loop
 parity-set-requires c κs =
     let s = c .before .before .before in
     (s .triangle .ensures, s .before .pre .0, s .before .pre .1, omega (arith, s .before .pre .3))
 
--- src/lib.rt:92:9
 mul-out : tie.Need-mul-out Inv-loop μ-loop
 mul-out c = search needs
 
--- src/lib.rt:92:9
 array-write-out : tie.Need-array-write-out Inv-loop μ-loop
 array-write-out c = search needs
 
--- src/lib.rt:91:9
 add-i : tie.Need-add-i Inv-loop μ-loop
 add-i c = search needs
 
--- src/lib.rt:91:5
 loop-less : tie.Need-loop-less Inv-loop μ-loop
 loop-less c = search needs
 
--- src/lib.rt:91:5
 loop-again : tie.Need-loop-again Inv-loop μ-loop
 loop-again c =
     let l = c .before .before .before .loop in
     (omega arith, simp length-set (l .inv .1), fill-more 16 (l .i) _ _ _ (omega arith) (l .inv .2) (c .parity-set .ensures))
 
--- src/lib.rt:85:1
 returns : tie.Need-returns Inv-loop μ-loop
 returns c =
     let a = c .before .before .before .args in
