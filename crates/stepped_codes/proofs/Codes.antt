@@ -10,7 +10,7 @@ use borrow.Author.Tests.{lt-ltb}
 use lib.Dec.{T, eqb, leb, ltb}
 use lib.ListN.{length, getD}
 use lib.Pow.{pow-mono}
-use Rattle.gf2.specs.Sets.{has, size, over, _⊆_}
+use Rattle.gf2.specs.Sets.{has, size, over}
 use Rattle.gf2.proofs.Tests.{T-true, leb-in, ltb-in, and-in, eqb-out, below-or}
 use Rattle.gf2.proofs.Bits.{no-disk}
 use Rattle.gf2.proofs.Subsets.{⊆-refl}
@@ -32,10 +32,11 @@ use Rattle.stepped_codes.proofs.Sizes.{three-or-four, distance-in, size
 use Rattle.stepped_codes.proofs.Counting.{sized}
 use Rattle.stepped_codes.proofs.Listed.{set-low, set-sized, sets-apart}
 use Rattle.stepped_codes.proofs.Bounds.{no-parity, bounds-count}
+use Rattle.stepped_codes.proofs.Combinations.{choose-pos, choose-above}
 use Rattle.stepped_codes.proofs.Placing.{placed-whole, sets-counted, counted, placed-of-size}
 use Rattle.stepped_codes.proofs.Distance.{fromSets, codeword-size, three, four, fatal-size}
 use Rattle.stepped_codes.proofs.Stepping.{first-size, least-size, sizesFrom, sizes-first, sizes-next}
-use Rattle.stepped_codes.proofs.Covering.{choose-pos, choose-above, covered}
+use Rattle.stepped_codes.proofs.Covering.{covered}
 
 -- ---- distance: enough parity sets are all it needs
 

@@ -1,21 +1,17 @@
 -- Each parity disk is in one of the first k parity sets, so no column is empty.
 -- Assumes nothing.
-use mathlib.Core.Path.{_≡_, refl, sym, _∙_, subst}
-use mathlib.Core.Bool.{Bool, true, false}
+use mathlib.Core.Path.{_≡_, sym, _∙_, subst}
 use mathlib.Core.Logic.{_⊎_, inl, inr}
-use Prim.Native.Nat.{ℕ, zero, suc, _+_, _-_, _*_, _^_, _≤_, _<_}
-use native.Mathlib.Nat.{pow-suc}
+use Prim.Native.Nat.{ℕ, zero, suc, _+_, _-_, _^_, _≤_, _<_}
 use native.Mathlib.Omega.{arith}
-use borrow.Author.Tests.{lt-ltb, le-ltb}
-use lib.Dec.{T, ltb}
-use Rattle.gf2.specs.If.{if_then_else_}
+use lib.Dec.{T}
 use Rattle.gf2.specs.Sets.{has, _⊕_}
 use Rattle.gf2.proofs.Tests.{below-or, below-suc}
 use Rattle.gf2.proofs.Subsets.{member-below, ⊕-left, plus-has, power-out}
 use Rattle.gf2.proofs.Made.{add-power}
 use Rattle.stepped_codes.specs.Stepped.{choose}
 use Rattle.stepped_codes.specs.Placing.{placed}
-use Rattle.stepped_codes.proofs.Placing.{choose-suc}
+use Rattle.stepped_codes.proofs.Combinations.{choose-suc, choose-pos, choose-above, placed-lt, placed-lacks, placed-has}
 
 -- ---- a disk above a set
 
@@ -28,40 +24,7 @@ above-has j S l = rw (above-is j S l) (plus-has S j (λ t. let h = member-below 
 above-keeps : (j S i : ℕ) → S < 2 ^ j → i < j → T (has S i) → T (has (2 ^ j + S) i)
 above-keeps j S i l h t = rw (above-is j S l) (⊕-left S (2 ^ j) i t (λ u. let e = power-out j i u in omega arith))
 
--- ---- counts of combinations
-
-pub choose-pos : (n s : ℕ) → s ≤ n → 1 ≤ choose n s
-unfolding choose
-choose-pos zero zero l = omega arith
-choose-pos zero (suc s) l = absurd (omega arith)
-choose-pos (suc n) zero l = omega arith
-choose-pos (suc n) (suc s) l = omega (arith, choose-pos n s (omega arith))
-
-pub choose-above : (n s : ℕ) → n < s → choose n s ≡ 0
-unfolding choose
-choose-above n zero l = absurd (omega arith)
-choose-above zero (suc s) l = refl
-choose-above (suc n) (suc s) l = omega (arith, choose-above n s (omega arith), choose-above n (suc s) (omega arith))
-
 -- ---- placed sets
-
-pub placed-lt : (m s i : ℕ) → placed m s i < 2 ^ m
-unfolding placed
-placed-lt zero s i = omega arith
-placed-lt (suc j) s i = rw pow-suc (go (ltb i (choose j s)) (placed-lt j s i) (placed-lt j (s - 1) (i - choose j s)))
-  where
-    go : (b : Bool) → placed j s i < 2 ^ j → placed j (s - 1) (i - choose j s) < 2 ^ j
-        → (if b then placed j s i else 2 ^ j + placed j (s - 1) (i - choose j s)) < 2 ^ j * 2
-    go true p q = omega arith
-    go false p q = omega arith
-
-pub placed-lacks : (j s i : ℕ) → i < choose j s → placed (suc j) s i ≡ placed j s i
-unfolding placed
-placed-lacks j s i l = rw (lt-ltb i (choose j s) l)
-
-pub placed-has : (j s i : ℕ) → choose j s ≤ i → placed (suc j) s i ≡ 2 ^ j + placed j (s - 1) (i - choose j s)
-unfolding placed
-placed-has j s i l = rw (le-ltb i (choose j s) l)
 
 -- the first that has disk j
 first-has : (j r : ℕ) → placed (suc j) (suc r) (choose j (suc r)) ≡ 2 ^ j + placed j r 0

@@ -2,6 +2,7 @@ pub mod Sizes
 pub mod Counting
 pub mod Listed
 pub mod Bounds
+pub mod Combinations
 pub mod Placing
 pub mod Distance
 pub mod Stepping

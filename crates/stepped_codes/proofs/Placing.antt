@@ -20,6 +20,7 @@ use Rattle.stepped_codes.specs.Stepped.{sizeOk, paritySets, paritySet, c
 use Rattle.stepped_codes.specs.Placing.{placed, placedAmong, sizes}
 use Rattle.stepped_codes.specs.Theorems.{PlacedSized, PlacedWhole}
 use Rattle.stepped_codes.proofs.Counting.{sets, sets-suc, sized, sized-suc, sized-length}
+use Rattle.stepped_codes.proofs.Combinations.{choose-none, choose-suc, placed-lacks, placed-has}
 
 -- the entry at a place of two lists, one after the other
 module _ (xs ys : List ℕ) (n i : ℕ) (long : length xs ≡ n) where
@@ -38,15 +39,6 @@ entry-map f (x ∷ xs) zero l = refl
 entry-map f (x ∷ xs) (suc i) l = entry-map f xs i (omega arith)
 
 -- ---- of one size
-
-pub choose-none : (n : ℕ) → choose n 0 ≡ 1
-unfolding choose
-choose-none zero = refl
-choose-none (suc n) = refl
-
-pub choose-suc : (n r : ℕ) → choose (suc n) (suc r) ≡ choose n r + choose n (suc r)
-unfolding choose
-choose-suc n r = refl
 
 -- the first choose j s lack disk j
 first-part : (j s i : ℕ) → i < choose j s → getD (sized (suc j) s) i 0 ≡ getD (sized j s) i 0
@@ -77,17 +69,14 @@ unfolding placed
 placed-sized zero s i l = none-placed s i
 placed-sized (suc j) zero i l =
     let h : i < choose j 0 = omega (arith, choose-none j, choose-none (suc j)) in
-    first-part j 0 i h ∙ placed-sized j 0 i h ∙ rw (lt-ltb i (choose j 0) h)
-placed-sized (suc j) (suc r) i l = go (below-or i (choose j (suc r))) (placed-sized j (suc r) i) (placed-sized j r (i - choose j (suc r)))
-  where
-    go : (i < choose j (suc r)) ⊎ (choose j (suc r) ≤ i) → (i < choose j (suc r) → getD (sized j (suc r)) i 0 ≡ placed j (suc r) i)
-        → (i - choose j (suc r) < choose j r → getD (sized j r) (i - choose j (suc r)) 0 ≡ placed j r (i - choose j (suc r)))
-        → getD (sized (suc j) (suc r)) i 0 ≡ (if ltb i (choose j (suc r)) then placed j (suc r) i else 2 ^ j + placed j (suc r - 1) (i - choose j (suc r)))
-    go (inl h) p q = first-part j (suc r) i h ∙ p h ∙ rw (lt-ltb i (choose j (suc r)) h)
-    go (inr h) p q =
-        let u : i - choose j (suc r) < choose j r = omega (arith, choose-suc j r) in
-        let e : suc r - 1 ≡ r = omega arith in
-        second-part j r i h u ∙ ap (λ (x : ℕ). 2 ^ j + x) (q u) ∙ rw (le-ltb i (choose j (suc r)) h, e)
+    first-part j 0 i h ∙ placed-sized j 0 i h ∙ sym (placed-lacks j 0 i h)
+placed-sized (suc j) (suc r) i l =
+    ⊎-elim (λ h. first-part j (suc r) i h ∙ placed-sized j (suc r) i h ∙ sym (placed-lacks j (suc r) i h))
+    (λ h. let u : i - choose j (suc r) < choose j r = omega (arith, choose-suc j r) in
+    let e : r ≡ suc r - 1 = omega arith in
+    second-part j r i h u ∙ ap (λ (x : ℕ). 2 ^ j + x) (placed-sized j r (i - choose j (suc r)) u)
+    ∙ ap (λ (t : ℕ). 2 ^ j + placed j t (i - choose j (suc r))) e ∙ sym (placed-has j (suc r) i h))
+    (below-or i (choose j (suc r)))
 
 pub placed-of-size : PlacedSized
 placed-of-size m s = (sized-length m s, placed-sized m s)

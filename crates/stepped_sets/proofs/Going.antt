@@ -1,4 +1,4 @@
--- Placing a set, disk by disk from the highest down, and finding a parity set's size.
+-- Placing a set, disk by disk from the highest down.
 -- Assumes nothing.
 use mathlib.Core.Path.{_≡_, refl, sym, ap, _∙_}
 use Prim.Native.Nat.{ℕ, zero, suc, _+_, _-_, _^_, _≤_, _<_}
@@ -7,10 +7,7 @@ use borrow.Author.Tests.{lt-ltb}
 use lib.Pow.{pow-mono}
 use Rattle.stepped_codes.specs.Stepped.{choose}
 use Rattle.stepped_codes.specs.Placing.{placed}
-use Rattle.stepped_codes.proofs.Placing.{choose-none, choose-suc}
-use Rattle.stepped_codes.proofs.Covering.{placed-lt, placed-lacks, placed-has}
-
--- ---- disk by disk
+use Rattle.stepped_codes.proofs.Combinations.{choose-none, choose-suc, placed-lt, placed-lacks, placed-has}
 
 -- `set` is what the disks from j on have of the i-th set; what is left to find is the left-th set of `size` disks below j
 abbrev pub Going : ℕ → ℕ → ℕ → ℕ → ℕ → ℕ → ℕ → Type 0
