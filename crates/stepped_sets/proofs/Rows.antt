@@ -1,69 +1,107 @@
--- Rows of Pascal's triangle as the code holds them: each from the one above, and the counts in it. One computed test says both.
+-- Rows of Pascal's triangle in their table: each from the one above, place by place, and the counts in it.
 -- Assumes nothing.
-use mathlib.Core.Path.{_≡_, refl, ap, _∙_}
-use mathlib.Core.Bool.{Bool, true, _&&_}
+use mathlib.Core.Path.{_≡_, refl, sym, ap, ap₂, _∙_}
 use mathlib.Core.List.{List}
 use Prim.Native.Nat.{ℕ, zero, suc, _+_, _-_, _*_, _/_, _%_, _^_, _≤_, _<_}
 use native.Mathlib.Nat.{pow-suc}
 use native.Mathlib.Omega.{arith}
-use lib.Dec.{T, eqb, ltb}
-use lib.ListN.{length, getD}
-use Rattle.gf2.proofs.Tests.{true-T, eqb-out, ltb-out, and-out}
-use Rattle.flat.specs.Lists.{every, tabulate, padded}
-use Rattle.flat.proofs.Lists.{length-tabulate, getD-tabulate}
-use Rattle.flat.proofs.Quantifiers.{every-out}
+use lib.ListN.{length, getD, set, replicate, List·getD-append}
+use lib.Pow.{pow-pos, pow-mono}
+use Rattle.flat.specs.Lists.{tabulate, padded}
+use Rattle.flat.proofs.Lists.{length-tabulate, length-padded, getD-tabulate, fill-more}
 use Rattle.stepped_codes.specs.Stepped.{choose}
-use Rattle.stepped_sets.specs.Triangle.{packed, triangle}
+use Rattle.stepped_codes.proofs.Combinations.{choose-none, choose-suc}
+use Rattle.stepped_sets.specs.Triangle.{cell, rowsTo, HasRow}
 
--- row n is 257 ^ n, which fits in 64 bits, and byte r of it is a count
-abbrev counts : ℕ → ℕ → Bool
-counts n r = eqb (packed n / 2 ^ (8 * r) % 256) (choose n r)
+-- ---- the counts
 
-abbrev tested : ℕ → Bool
-tested n = eqb (packed n) (257 ^ n) && ltb (packed n) (2 ^ 57) && every 8 (counts n)
+cell-is : (n r : ℕ) → r ≤ 7 → cell (8 * n + r) ≡ choose n r
+unfolding cell
+cell-is n r l =
+    let q : (8 * n + r) / 8 ≡ n = omega arith in
+    let m : (8 * n + r) % 8 ≡ r = omega arith in
+    ap₂ choose q m
 
-all-tested : every 8 tested ≡ true
-unfolding every packed
-all-tested = refl
+choose-le : (n r : ℕ) → choose n r ≤ 2 ^ n
+unfolding choose
+choose-le zero zero = omega arith
+choose-le zero (suc r) = omega arith
+choose-le (suc n) zero = pow-pos (suc n)
+choose-le (suc n) (suc r) = rw pow-suc (omega (arith, choose-le n r, choose-le n (suc r)))
 
-module _ (n : ℕ) (l : n ≤ 7) where
-  row-tested : T (tested n)
-  row-tested = every-out 8 tested (true-T all-tested) n (omega arith)
+-- ---- the table up to some place
 
-  row-is : packed n ≡ 257 ^ n
-  row-is = eqb-out (packed n) (257 ^ n) (and-out (eqb (packed n) (257 ^ n)) (ltb (packed n) (2 ^ 57)) (and-out (eqb (packed n) (257 ^ n) && ltb (packed n) (2 ^ 57)) (every 8 (counts n)) row-tested .0) .0)
+-- the first t places, then zeros
+abbrev pub Filled : List ℕ → ℕ → Type 0
+Filled rows t = rows ≡ padded 64 (tabulate t cell)
 
-  pub row-fits : packed n < 2 ^ 57
-  row-fits = ltb-out (packed n) (2 ^ 57) (and-out (eqb (packed n) (257 ^ n)) (ltb (packed n) (2 ^ 57)) (and-out (eqb (packed n) (257 ^ n) && ltb (packed n) (2 ^ 57)) (every 8 (counts n)) row-tested .0) .1)
+pub filled-long : (rows : List ℕ) (t : ℕ) → Filled rows t → t ≤ 64 → length rows ≡ 64
+filled-long rows t e l = ap length e ∙ length-padded 64 (tabulate t cell) (omega (arith, length-tabulate t cell))
 
-  pub row-count : (r : ℕ) → r ≤ 7 → packed n / 2 ^ (8 * r) % 256 ≡ choose n r
-  row-count r h =
-      eqb-out (packed n / 2 ^ (8 * r) % 256) (choose n r)
-      (every-out 8 (counts n) (and-out (eqb (packed n) (257 ^ n) && ltb (packed n) (2 ^ 57)) (every 8 (counts n)) row-tested .1) r (omega arith))
+filled-at : (rows : List ℕ) (t i : ℕ) → Filled rows t → i < t → getD rows i 0 ≡ cell i
+unfolding padded
+filled-at rows t i e l =
+    ap (λ (xs : List ℕ). getD xs i 0) e
+    ∙ List·getD-append (tabulate t cell) (replicate (64 - length (tabulate t cell)) 0) 0 i (omega (arith, length-tabulate t cell)) ∙ getD-tabulate t cell i l
 
-pub row-first : (n : ℕ) → n ≡ 0 → 1 ≡ packed n
-unfolding packed
-row-first n e = rw e
+-- row 0 is its first count alone
+pub filled-first : Filled (set (replicate 64 0) 0 1) 8
+unfolding padded tabulate cell
+filled-first = refl
 
--- the row above, and the same a byte up
-pub row-next : (n above : ℕ) → (n ≡ 0 → ⊥) → n ≤ 7 → above ≡ packed (n - 1) → above + 256 * above ≡ packed n
-row-next zero above f l e = absurd (f refl)
-row-next (suc p) above f l e =
-    let q : suc p - 1 ≡ p = omega arith in
-    let a : above ≡ 257 ^ p = e ∙ ap packed q ∙ row-is p (omega arith) in
-    omega (arith, row-is (suc p) l, pow-suc 257 p)
+module _ (n at : ℕ) (some : n ≡ 0 → ⊥) (few : n ≤ 7) (is : at ≡ 8 * n) (rows : List ℕ) where
+  -- each row begins with the count of the empty set
+  pub filled-start : Filled rows at → Filled (set rows at 1) (at + 1)
+  filled-start e = fill-more 64 at 1 cell rows (omega arith) e (sym (ap cell (let z : at ≡ 8 * n + 0 = omega arith in z) ∙ cell-is n 0 (omega arith) ∙ choose-none n))
 
--- ---- the rows in their array
+  module _ (r : ℕ) (low : 1 ≤ r) (high : r < 8) (e : Filled rows (at + r)) where
+    -- the two above a count make it
+    two-above : getD rows (at + r - 9) 0 + getD rows (at + r - 8) 0 ≡ choose n r
+    two-above =
+        let p = n - 1 in
+        let q = r - 1 in
+        let n-is : n ≡ suc p = omega arith in
+        let r-is : r ≡ suc q = omega arith in
+        let left : at + r - 9 ≡ 8 * p + q = omega arith in
+        let right : at + r - 8 ≡ 8 * p + suc q = omega arith in
+        ap₂ _+_ (filled-at rows (at + r) (at + r - 9) e (omega arith) ∙ ap cell left ∙ cell-is p q (omega arith))
+        (filled-at rows (at + r) (at + r - 8) e (omega arith) ∙ ap cell right ∙ cell-is p (suc q) (omega arith))
+        ∙ sym (ap₂ choose n-is r-is ∙ choose-suc p q)
 
-pub triangle-long : (rows : List ℕ) → rows ≡ triangle → length rows ≡ 8
-unfolding triangle
-triangle-long rows e = ap length e ∙ length-tabulate 8 packed
+    pub count-fits : getD rows (at + r - 9) 0 + getD rows (at + r - 8) 0 < 256
+    count-fits = let h : 2 ^ n ≤ 128 = pow-mono {i = n} {j = 7} few in omega (arith, two-above, choose-le n r)
 
-pub counted : (rows : List ℕ) (n r : ℕ) → rows ≡ triangle → n ≤ 7 → r ≤ 7 → getD rows n 0 / 2 ^ (8 * r) % 256 ≡ choose n r
-unfolding triangle
-counted rows n r e l h =
-    ap (λ (x : ℕ). x / 2 ^ (8 * r) % 256) (ap (λ (xs : List ℕ). getD xs n 0) e ∙ getD-tabulate 8 packed n (omega arith)) ∙ row-count n l r h
+    pub filled-next : (v : ℕ) → v ≡ getD rows (at + r - 9) 0 + getD rows (at + r - 8) 0 → Filled (set rows (at + r) v) (at + (r + 1))
+    filled-next v is-sum =
+        let z : at + r ≡ 8 * n + r = omega arith in
+        let o : at + r + 1 ≡ at + (r + 1) = omega arith in
+        fill-more 64 (at + r) v cell rows (omega arith) e (is-sum ∙ two-above ∙ sym (ap cell z ∙ cell-is n r (omega arith)))
+        ∙ ap (λ (s : ℕ). padded 64 (tabulate s cell)) o
 
-pub all-rows : padded 8 (tabulate 8 packed) ≡ triangle
-unfolding padded tabulate triangle
-all-rows = refl
+-- ---- whole rows
+
+pub rows-filled : (n t : ℕ) (rows : List ℕ) → t ≡ 8 * n + 8 → Filled rows t → rows ≡ rowsTo n
+unfolding rowsTo
+rows-filled n t rows z e = e ∙ ap (λ (s : ℕ). padded 64 (tabulate s cell)) z
+
+pub filled-rows : (n t : ℕ) (rows : List ℕ) → t ≡ 8 * n + 8 → rows ≡ rowsTo n → Filled rows t
+unfolding rowsTo
+filled-rows n t rows z e = e ∙ ap (λ (s : ℕ). padded 64 (tabulate s cell)) (sym z)
+
+module _ (rows : List ℕ) (n : ℕ) (h : HasRow rows n) where
+  pub has-few : n ≤ 7
+  has-few = let u = h .2 in let v = h .3 in omega arith
+
+  pub rows-long : length rows ≡ 64
+  rows-long = let p = h .0 in let l = h .3 in filled-long rows (8 * p + 8) (filled-rows p (8 * p + 8) rows refl (h .1)) (omega arith)
+
+  pub counted : (r : ℕ) → r ≤ 7 → getD rows (8 * n + r) 0 ≡ choose n r
+  counted r l =
+      let p = h .0 in
+      let u = h .2 in
+      filled-at rows (8 * p + 8) (8 * n + r) (filled-rows p (8 * p + 8) rows refl (h .1)) (omega arith) ∙ cell-is n r l
+
+  pub count-small : (r : ℕ) → r ≤ 7 → getD rows (8 * n + r) 0 < 256
+  count-small r l =
+      let p : 2 ^ n ≤ 128 = pow-mono {i = n} {j = 7} has-few in
+      omega (arith, counted r l, choose-le n r)

@@ -1,24 +1,25 @@
 -- choose meets its contract. Assumes nothing.
 use native.Mathlib.Omega.{arith}
 use borrow.Author.Needs.{needs}
-use Rattle.stepped_sets.proofs.Rows.{triangle-long, counted}
+use Rattle.stepped_sets.proofs.Rows.{has-few, rows-long, counted, count-small}
 use Rattle.stepped_sets.proofs.choose.Statement.{statement}
 use Rattle.stepped_sets.proofs.choose.Tie as tie
 
 mul-result : tie.Need-mul-result
-mul-result c = search needs
+mul-result c = omega (arith, has-few _ _ (c .pre .0))
+
+add-result : tie.Need-add-result
+add-result c = omega (arith, has-few _ _ (c .pre .0))
 
 element-copy-out-result : tie.Need-element-copy-out-result
-element-copy-out-result c = omega (arith, triangle-long _ (c .pre .0))
+element-copy-out-result c = let h = c .pre .0 in omega (arith, rows-long _ _ h, has-few _ _ h)
 
-mul-result-2 : tie.Need-mul-result-2
-mul-result-2 c = search needs
-
-shr-result : tie.Need-shr-result
-shr-result c = search needs
+cast-result : tie.Need-cast-result
+cast-result c = let p = c .before .pre in omega (arith, count-small _ _ (p .0) _ (p .1))
 
 returns : tie.Need-returns
-returns c = counted _ _ _ (c .before .pre .0) (omega arith) (omega arith)
+returns c = let p = c .before .pre in counted _ _ (p .0) _ (p .1)
 
 pub choose-spec : {M : Type 1} → statement M
-choose-spec = tie.close (tie.spec mul-result element-copy-out-result mul-result-2 shr-result returns)
+choose-spec =
+    tie.close (tie.spec mul-result add-result element-copy-out-result cast-result returns)

@@ -4,6 +4,7 @@ use Prim.Native.Nat.{_+_, _-_, _≤_}
 use native.Mathlib.Omega.{arith}
 use Rattle.stepped_codes.specs.Stepped.{choose}
 use Rattle.stepped_codes.proofs.Sizes.{distance-in}
+use Rattle.stepped_sets.proofs.Rows.{has-few}
 use Rattle.stepped_sets.proofs.Finding.{Finding, step-is, finding-first, finding-size, finding-next, finding-end}
 use Rattle.stepped_sets.proofs.parity_set.Statement.{statement}
 use Rattle.stepped_sets.proofs.parity_set.Tie as tie
@@ -36,19 +37,21 @@ sub-size : tie.Need-sub-size Inv-loop μ-loop
 sub-size c = omega (arith, distance-in (c .args .d) (c .pre .1))
 
 choose-requires : tie.Need-choose-requires Inv-loop μ-loop
-choose-requires c κs = (c .pre .0, omega arith, omega (arith, distance-in (c .args .d) (c .pre .1)))
+choose-requires c κs = (c .pre .0, omega (arith, distance-in (c .args .d) (c .pre .1)))
 
 loop-holds : tie.Need-loop-holds Inv-loop μ-loop
-loop-holds c = (c .choose .ensures, finding-first _ _ _ (c .before .pre .1) (c .before .pre .3))
+loop-holds c = (c .choose .ensures, finding-first _ _ _ (c .before .pre .1) (c .before .pre .2))
 
 sub-size-2 : tie.Need-sub-size-2 Inv-loop μ-loop
 sub-size-2 c = let s = c .before .before .before in omega (arith, distance-in (s .args .d) (s .pre .1))
 
 add-size : tie.Need-add-size Inv-loop μ-loop
-add-size c = omega (arith, next-size c)
+add-size c = omega (arith, next-size c, has-few _ _ (c .before .before .before .pre .0))
 
 choose-requires-2 : tie.Need-choose-requires-2 Inv-loop μ-loop
-choose-requires-2 c κs = (c .before .before .before .pre .0, omega arith, omega (arith, next-size c))
+choose-requires-2 c κs =
+    let h = c .before .before .before .pre .0 in
+    (h, omega (arith, next-size c, has-few _ _ h))
 
 loop-less : tie.Need-loop-less Inv-loop μ-loop
 loop-less c =
@@ -62,7 +65,8 @@ placed-requires : tie.Need-placed-requires Inv-loop μ-loop
 placed-requires c κs =
     let s = c .before .before .before in
     let l = c .before .loop in
-    (s .pre .0, omega arith, omega (arith, finding-size (s .args .d) (s .args .m) (s .args .i) (s .pre .1) (l .size) (l .left) (l .inv .1)), omega (arith, l .inv .0))
+    let few = finding-size (s .args .d) (s .args .m) (s .args .i) (s .pre .1) (l .size) (l .left) (l .inv .1) in
+    (s .pre .0, omega (arith, few, has-few _ _ (s .pre .0)), omega (arith, l .inv .0))
 
 returns : tie.Need-returns Inv-loop μ-loop
 returns c =

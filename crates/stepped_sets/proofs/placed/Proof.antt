@@ -5,6 +5,7 @@ use native.Mathlib.Omega.{arith}
 use borrow.Author.Needs.{needs}
 use Rattle.gf2.proofs.Bits.{one-shifted}
 use Rattle.stepped_codes.specs.Placing.{placed}
+use Rattle.stepped_sets.proofs.Rows.{has-few}
 use Rattle.stepped_sets.proofs.Going.{Going, going-some, going-low, going-high, going-fits, going-end}
 use Rattle.stepped_sets.proofs.placed.Statement.{statement}
 use Rattle.stepped_sets.proofs.placed.Tie as tie
@@ -16,13 +17,15 @@ abbrev μ-loop : tie.MeasureT-loop
 μ-loop rows m s i set₀ size₀ left₀ j₀ set size left j = j
 
 loop-holds : tie.Need-loop-holds Inv-loop μ-loop
-loop-holds c = (omega arith, omega arith, c .pre .3, zero-add (placed _ _ _))
+loop-holds c = (omega arith, omega arith, c .pre .2, zero-add (placed _ _ _))
 
 sub-j : tie.Need-sub-j Inv-loop μ-loop
 sub-j c = let l = c .before .loop in going-some _ _ _ (l .set) (l .size) (l .left) (l .j) (l .inv) (c .loop-test .taken)
 
 choose-requires : tie.Need-choose-requires Inv-loop μ-loop
-choose-requires c κs = search needs
+choose-requires c κs =
+    let h = c .before .before .pre .0 in
+    ((h .0, h .1, omega (arith, h .2), h .3), omega arith)
 
 cast-set : tie.Need-cast-set Inv-loop μ-loop
 cast-set c = search needs
@@ -34,7 +37,7 @@ add-set : tie.Need-add-set Inv-loop μ-loop
 add-set c =
     let e = c .before .before .before .before in
     let l = c .before .before .before .loop in
-    let f = going-fits (e .args .m) (e .args .s) (e .args .i) (l .set) (l .size) (l .left) (l .j) _ (l .inv) (omega arith) (c .before .choose .ensures) (e .pre .1) (omega arith) in
+    let f = going-fits (e .args .m) (e .args .s) (e .args .i) (l .set) (l .size) (l .left) (l .j) _ (l .inv) (omega arith) (c .before .choose .ensures) (has-few _ _ (e .pre .0)) (omega arith) in
     omega (arith, one-shifted (l .j - 1) (omega arith), f)
 
 sub-size : tie.Need-sub-size Inv-loop μ-loop

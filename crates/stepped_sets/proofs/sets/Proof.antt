@@ -16,8 +16,8 @@ Inv-loop d m k rows out₀ i₀ out i = (i ≤ k) × (length out ≡ 16) × (out
 abbrev μ-loop : tie.MeasureT-loop
 μ-loop d m k rows out₀ i₀ out i = k - i
 
-triangle-requires : tie.Need-triangle-requires Inv-loop μ-loop
-triangle-requires c κs = search needs
+binomials-requires : tie.Need-binomials-requires Inv-loop μ-loop
+binomials-requires c κs = search needs
 
 loop-holds : tie.Need-loop-holds Inv-loop μ-loop
 loop-holds c = (omega arith, refl, fill-none 16 _)
@@ -25,7 +25,8 @@ loop-holds c = (omega arith, refl, fill-none 16 _)
 parity-set-requires : tie.Need-parity-set-requires Inv-loop μ-loop
 parity-set-requires c κs =
     let s = c .before .before .before in
-    (s .triangle .ensures, s .before .pre .0, s .before .pre .1, omega (arith, s .before .pre .3))
+    let p = s .before .pre in
+    ((s .before .args .m, s .binomials .ensures, omega arith, p .1), p .0, omega (arith, p .3))
 
 mul-out : tie.Need-mul-out Inv-loop μ-loop
 mul-out c = search needs
@@ -57,7 +58,7 @@ sets-spec =
     (tie.spec
     Inv-loop
     μ-loop
-    triangle-requires
+    binomials-requires
     loop-holds
     parity-set-requires
     mul-out

@@ -1,0 +1,87 @@
+-- binomials meets its contract, by recursion on the row's number. Assumes nothing.
+use Prim.Native.Nat.{ℕ, _<_}
+use native.Mathlib.Omega.{arith}
+use borrow.Author.Needs.{needs}
+use Rattle.stepped_sets.proofs.Rows.{filled-first, rows-filled}
+use borrow.Fn.Kinds.{In}
+use borrow.Fn.PlainCycle.{Measures, is, falls, and}
+use Rattle.stepped_sets.proofs.binomials.Reads as binomials
+use Rattle.stepped_sets.proofs.binomials.Kinds as binomials-kinds
+use Rattle.stepped_sets.proofs.+binomials.Lts-binomials as binomials-lts
+use Rattle.stepped_sets.proofs.with_row.Reads as with-row-reads
+use Rattle.stepped_sets.proofs.+binomials.{statement}
+use Rattle.stepped_sets.proofs.+binomials.Tie.{close}
+
+abbrev μ-binomials : Measures 0 binomials-kinds.ps ℕ
+μ-binomials κs a = a .0
+
+abbrev binomials-at : ℕ → In 0 binomials-kinds.ps
+binomials-at t = and 0 binomials-kinds.ps (is 0 binomials-kinds.ps μ-binomials t) binomials.Pre
+
+abbrev binomials-below : ℕ → In 0 binomials-kinds.ps
+binomials-below t =
+    and 0 binomials-kinds.ps (falls 0 binomials-kinds.ps _<_ μ-binomials t) binomials.Pre
+
+binomials-array-write-rows : (t : ℕ) → binomials-lts.Need-array-write-rows (
+  binomials-below t,
+  binomials.Post,
+  with-row-reads.Asked,
+  with-row-reads.Learnt,
+) (binomials-at t) binomials.Post
+binomials-array-write-rows t c = search needs
+
+binomials-returns : (t : ℕ) → binomials-lts.Need-returns (
+  binomials-below t,
+  binomials.Post,
+  with-row-reads.Asked,
+  with-row-reads.Learnt,
+) (binomials-at t) binomials.Post
+binomials-returns t c = rows-filled _ 8 _ (omega arith) filled-first
+
+binomials-sub-binomials : (t : ℕ) → binomials-lts.Need-sub-binomials (
+  binomials-below t,
+  binomials.Post,
+  with-row-reads.Asked,
+  with-row-reads.Learnt,
+) (binomials-at t) binomials.Post
+binomials-sub-binomials t c = search needs
+
+binomials-binomials-requires : (t : ℕ) → binomials-lts.Need-binomials-requires (
+  binomials-below t,
+  binomials.Post,
+  with-row-reads.Asked,
+  with-row-reads.Learnt,
+) (binomials-at t) binomials.Post
+binomials-binomials-requires t c κs = omega arith
+
+binomials-with-row-requires : (t : ℕ) → binomials-lts.Need-with-row-requires (
+  binomials-below t,
+  binomials.Post,
+  with-row-reads.Asked,
+  with-row-reads.Learnt,
+) (binomials-at t) binomials.Post
+binomials-with-row-requires t c κs = (omega arith, omega arith, c .binomials .ensures)
+
+binomials-returns-2 : (t : ℕ) → binomials-lts.Need-returns-2 (
+  binomials-below t,
+  binomials.Post,
+  with-row-reads.Asked,
+  with-row-reads.Learnt,
+) (binomials-at t) binomials.Post
+binomials-returns-2 t c = c .with-row .ensures
+
+pub +binomials-spec : {M : Type 1} → statement M
++binomials-spec = close μ-binomials λ t. binomials-lts.spec (
+  binomials-below t,
+  binomials.Post,
+  with-row-reads.Asked,
+  with-row-reads.Learnt,
+)
+    (binomials-at t)
+    binomials.Post
+    (binomials-array-write-rows t)
+    (binomials-returns t)
+    (binomials-sub-binomials t)
+    (binomials-binomials-requires t)
+    (binomials-with-row-requires t)
+    (binomials-returns-2 t)
