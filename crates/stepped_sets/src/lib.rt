@@ -12,18 +12,16 @@ ghost use Rattle.stepped_codes.specs.Stepped.{distanceOk, paritySets, paritySet
 ghost use Rattle.stepped_codes.specs.Placing.{placed};
 ghost use Rattle.stepped_sets.specs.Triangle.{rowsTo, HasRow};
 
-// Row n of Pascal's triangle put under the rows above it: each count but the first is the sum of the two above it.
-fn with_row(above: [u8; 64], n: usize) -> [u8; 64]
-    requires { ⌜ (1 ≤ n) × (n ≤ 7) × (above ≡ rowsTo (n - 1)) ⌝ }
-    ensures { λ r. ⌜ r ≡ rowsTo n ⌝ }
+// Row n of Pascal's triangle, under the rows above it: each count but the first is the sum of the two above it.
+fn add_row(rows: &mut [u8; 64], n: usize)
+    requires { ⌜ (1 ≤ n) × (n ≤ 7) × (now rows ≡ rowsTo (n - 1)) ⌝ }
+    ensures { λ _. ⌜ now (rows .exit) ≡ rowsTo n ⌝ }
 {
-    let mut rows = above;
     let at = 8 * n;
     rows[at] = 1;
     for r in 1..8 {
         rows[at + r] = rows[at + r - 9] + rows[at + r - 8];
     }
-    rows
 }
 
 // Rows 0 to n of Pascal's triangle, eight places each: how many sets of 0, 1, .. of 0, of 1, .., of n disks there are.
@@ -32,11 +30,13 @@ fn binomials(n: usize) -> [u8; 64]
     ensures { λ r. ⌜ r ≡ rowsTo n ⌝ }
 {
     if n == 0 {
-        let mut rows = [0u8; 64];
-        rows[0] = 1;
-        return rows;
+        let mut first = [0u8; 64];
+        first[0] = 1;
+        return first;
     }
-    with_row(binomials(n - 1), n)
+    let mut rows = binomials(n - 1);
+    add_row(&mut rows, n);
+    rows
 }
 
 // How many sets of r of n disks there are.

@@ -8,7 +8,7 @@ use borrow.Fn.PlainCycle.{Measures, is, falls, and}
 use Rattle.stepped_sets.proofs.binomials.Reads as binomials
 use Rattle.stepped_sets.proofs.binomials.Kinds as binomials-kinds
 use Rattle.stepped_sets.proofs.+binomials.Lts-binomials as binomials-lts
-use Rattle.stepped_sets.proofs.with_row.Reads as with-row-reads
+use Rattle.stepped_sets.proofs.add_row.Reads as add-row-reads
 use Rattle.stepped_sets.proofs.+binomials.{statement}
 use Rattle.stepped_sets.proofs.+binomials.Tie.{close}
 
@@ -22,66 +22,66 @@ abbrev binomials-below : ℕ → In 0 binomials-kinds.ps
 binomials-below t =
     and 0 binomials-kinds.ps (falls 0 binomials-kinds.ps _<_ μ-binomials t) binomials.Pre
 
-binomials-array-write-rows : (t : ℕ) → binomials-lts.Need-array-write-rows (
+binomials-array-write-first : (t : ℕ) → binomials-lts.Need-array-write-first (
   binomials-below t,
   binomials.Post,
-  with-row-reads.Asked,
-  with-row-reads.Learnt,
+  add-row-reads.Asked,
+  add-row-reads.Learnt,
 ) (binomials-at t) binomials.Post
-binomials-array-write-rows t c = search needs
+binomials-array-write-first t c = search needs
 
 binomials-returns : (t : ℕ) → binomials-lts.Need-returns (
   binomials-below t,
   binomials.Post,
-  with-row-reads.Asked,
-  with-row-reads.Learnt,
+  add-row-reads.Asked,
+  add-row-reads.Learnt,
 ) (binomials-at t) binomials.Post
 binomials-returns t c = rows-filled _ 8 _ (omega arith) filled-first
 
 binomials-sub-binomials : (t : ℕ) → binomials-lts.Need-sub-binomials (
   binomials-below t,
   binomials.Post,
-  with-row-reads.Asked,
-  with-row-reads.Learnt,
+  add-row-reads.Asked,
+  add-row-reads.Learnt,
 ) (binomials-at t) binomials.Post
 binomials-sub-binomials t c = search needs
 
 binomials-binomials-requires : (t : ℕ) → binomials-lts.Need-binomials-requires (
   binomials-below t,
   binomials.Post,
-  with-row-reads.Asked,
-  with-row-reads.Learnt,
+  add-row-reads.Asked,
+  add-row-reads.Learnt,
 ) (binomials-at t) binomials.Post
 binomials-binomials-requires t c κs = omega arith
 
-binomials-with-row-requires : (t : ℕ) → binomials-lts.Need-with-row-requires (
+binomials-add-row-requires : (t : ℕ) → binomials-lts.Need-add-row-requires (
   binomials-below t,
   binomials.Post,
-  with-row-reads.Asked,
-  with-row-reads.Learnt,
+  add-row-reads.Asked,
+  add-row-reads.Learnt,
 ) (binomials-at t) binomials.Post
-binomials-with-row-requires t c κs = (omega arith, omega arith, c .binomials .ensures)
+binomials-add-row-requires t c κs = (omega arith, omega arith, c .before .binomials .ensures)
 
 binomials-returns-2 : (t : ℕ) → binomials-lts.Need-returns-2 (
   binomials-below t,
   binomials.Post,
-  with-row-reads.Asked,
-  with-row-reads.Learnt,
+  add-row-reads.Asked,
+  add-row-reads.Learnt,
 ) (binomials-at t) binomials.Post
-binomials-returns-2 t c = c .with-row .ensures
+binomials-returns-2 t c = c .add-row .ensures
 
 pub +binomials-spec : {M : Type 1} → statement M
 +binomials-spec = close μ-binomials λ t. binomials-lts.spec (
   binomials-below t,
   binomials.Post,
-  with-row-reads.Asked,
-  with-row-reads.Learnt,
+  add-row-reads.Asked,
+  add-row-reads.Learnt,
 )
     (binomials-at t)
     binomials.Post
-    (binomials-array-write-rows t)
+    (binomials-array-write-first t)
     (binomials-returns t)
     (binomials-sub-binomials t)
     (binomials-binomials-requires t)
-    (binomials-with-row-requires t)
+    (binomials-add-row-requires t)
     (binomials-returns-2 t)
