@@ -44,11 +44,6 @@ filled-at rows t i e l =
     ap (λ (xs : List ℕ). getD xs i 0) e
     ∙ List·getD-append (tabulate t cell) (replicate (64 - length (tabulate t cell)) 0) 0 i (omega (arith, length-tabulate t cell)) ∙ getD-tabulate t cell i l
 
--- row 0 is its first count alone
-pub filled-first : Filled (set (replicate 64 0) 0 1) 8
-unfolding padded tabulate cell
-filled-first = refl
-
 module _ (n at : ℕ) (some : n ≡ 0 → ⊥) (few : n ≤ 7) (is : at ≡ 8 * n) (rows : List ℕ) where
   -- each row begins with the count of the empty set
   pub filled-start : Filled rows at → Filled (set rows at 1) (at + 1)
@@ -83,6 +78,11 @@ module _ (n at : ℕ) (some : n ≡ 0 → ⊥) (few : n ≤ 7) (is : at ≡ 8 * 
 pub rows-filled : (n t : ℕ) (rows : List ℕ) → t ≡ 8 * n + 8 → Filled rows t → rows ≡ rowsTo n
 unfolding rowsTo
 rows-filled n t rows z e = e ∙ ap (λ (s : ℕ). padded 64 (tabulate s cell)) z
+
+-- row 0 is its first count alone
+pub first-row : (n : ℕ) (rows : List ℕ) → rows ≡ replicate 64 0 → n ≡ 0 → set rows 0 1 ≡ rowsTo n
+unfolding rowsTo
+first-row n rows e z = rw (e, z)
 
 pub filled-rows : (n t : ℕ) (rows : List ℕ) → t ≡ 8 * n + 8 → rows ≡ rowsTo n → Filled rows t
 unfolding rowsTo

@@ -6,7 +6,7 @@
 ghost use mathlib.Core.Path.{_≡_};
 ghost use Prim.Native.Nat.{_-_, _≤_, _<_};
 ghost use lib.Dec.{T};
-ghost use lib.ListN.{length};
+ghost use lib.ListN.{length, replicate};
 ghost use Rattle.flat.specs.Lists.{tabulate, padded};
 ghost use Rattle.stepped_codes.specs.Stepped.{distanceOk, paritySets, paritySet, choose};
 ghost use Rattle.stepped_codes.specs.Placing.{placed};
@@ -24,19 +24,18 @@ fn add_row(rows: &mut [u8; 64], n: usize)
     }
 }
 
-// Rows 0 to n of Pascal's triangle, eight places each: how many sets of 0, 1, .. of 0, of 1, .., of n disks there are.
-fn binomials(n: usize) -> [u8; 64]
-    requires { ⌜ n ≤ 7 ⌝ }
-    ensures { λ r. ⌜ r ≡ rowsTo n ⌝ }
+// Rows 0 to n of Pascal's triangle into a table of zeros, eight places each: how many sets of 0, 1, .. of 0, of 1, ..,
+// of n disks there are.
+fn binomials(rows: &mut [u8; 64], n: usize)
+    requires { ⌜ (n ≤ 7) × (now rows ≡ replicate 64 0) ⌝ }
+    ensures { λ _. ⌜ now (rows .exit) ≡ rowsTo n ⌝ }
 {
     if n == 0 {
-        let mut first = [0u8; 64];
-        first[0] = 1;
-        return first;
+        rows[0] = 1;
+    } else {
+        binomials(rows, n - 1);
+        add_row(rows, n);
     }
-    let mut rows = binomials(n - 1);
-    add_row(&mut rows, n);
-    rows
 }
 
 // How many sets of r of n disks there are.
@@ -91,7 +90,8 @@ pub fn sets(d: usize, m: usize, k: usize) -> [u32; 16]
     requires { ⌜ T (distanceOk d) × (m ≤ 7) × (k ≤ 16) × (k ≤ length (paritySets d m)) ⌝ }
     ensures { λ r. ⌜ r ≡ padded 16 (tabulate k (paritySet d m)) ⌝ }
 {
-    let rows = binomials(m);
+    let mut rows = [0u8; 64];
+    binomials(&mut rows, m);
     let mut out = [0u32; 16];
     for i in 0..k {
         out[i] = parity_set(&rows, d, m, i);

@@ -17,7 +17,7 @@ abbrev μ-loop : tie.MeasureT-loop
 μ-loop d m k rows out₀ i₀ out i = k - i
 
 binomials-requires : tie.Need-binomials-requires Inv-loop μ-loop
-binomials-requires c κs = search needs
+binomials-requires c κs = (c .before .pre .1, refl)
 
 loop-holds : tie.Need-loop-holds Inv-loop μ-loop
 loop-holds c = (omega arith, refl, fill-none 16 _)
@@ -25,8 +25,8 @@ loop-holds c = (omega arith, refl, fill-none 16 _)
 parity-set-requires : tie.Need-parity-set-requires Inv-loop μ-loop
 parity-set-requires c κs =
     let s = c .before .before .before in
-    let p = s .before .pre in
-    ((s .before .args .m, s .binomials .ensures, omega arith, p .1), p .0, omega (arith, p .3))
+    let p = s .before .before .pre in
+    ((s .before .before .args .m, s .binomials .ensures, omega arith, p .1), p .0, omega (arith, p .3))
 
 mul-out : tie.Need-mul-out Inv-loop μ-loop
 mul-out c = search needs
@@ -47,7 +47,7 @@ loop-again c =
 
 returns : tie.Need-returns Inv-loop μ-loop
 returns c =
-    let a = c .before .before .before .args in
+    let a = c .before .before .before .before .args in
     let l = c .before .loop in
     let e : l .i ≡ a .k = omega arith in
     l .inv .2 ∙ ap (λ (i : ℕ). padded 16 (tabulate i (paritySet (a .d) (a .m)))) e
