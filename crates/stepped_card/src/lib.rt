@@ -13,8 +13,8 @@ ghost use Rattle.stepped_codes.specs.Stepped.{distanceOk, paritySets, stepped, 
 ghost use Rattle.stepped_codes.specs.Faults.{steppedReport, steppedBuffer};
 ghost use Rattle.stepped_card.specs.Reports.{report};
 
-// The answer: written, a count of data or parity disks that is none, a distance that is neither 3 nor 4, k outside the
-// bounds for d and m, or a buffer of another length.
+// The answer: written, k or m outside 1 to 16, a distance that is neither 3 nor 4, k outside the bounds for d and m, or a
+// buffer of another length.
 pub enum SteppedWritten {
     Done,
     DataCount,

@@ -73,7 +73,8 @@ bounds-printed n k = (
         let b = p .1 in
         four-in (suc (suc n)) k (omega (arith, pow-suc 2 n, pow-suc 2 (suc n))) (omega (arith, pow-suc 2 (suc n))),
   ),
-  λ d t l. ⊎-elim (λ u. let b = three-out 1 k u .1 in omega arith) (λ u. let b = four-out 1 k u .1 in omega arith) (either 1 k d t),
+  λ d t. ⊎-elim (λ u. let p = three-out 1 k u in let a = p .0 in let b = p .1 in omega arith)
+      (λ u. let p = four-out 1 k u in let a = p .0 in let b = p .1 in omega arith) (either 1 k d t),
 )
 
 -- ---- as counts

@@ -17,6 +17,7 @@ use Rattle.flat.proofs.Members.{range-out}
 use Rattle.flat.proofs.Filters.{filter-cong, filter-append, filter-map, range-parts}
 use Rattle.flat.proofs.Counts.{size-above}
 use Rattle.stepped_codes.specs.Stepped.{choose}
+use Rattle.stepped_codes.proofs.Combinations.{choose-none}
 use Rattle.stepped_codes.proofs.Sizes.{from, from-in, from-out, from-suc}
 
 -- ---- the sets below 2 ^ m by their size
@@ -63,7 +64,7 @@ pub many-cong : (m : ℕ) (P Q : ℕ → Bool) → ((s : ℕ) → P s ≡ Q s) �
 unfolding many
 many-cong m P Q e = ap length (filter-cong (λ S. P (size S)) (λ S. Q (size S)) (range 0 (2 ^ m)) (λ S t. e (size S)))
 
--- one less of each, by another wording
+-- the test of one disk more, in other words
 many-more : (m : ℕ) (P Q : ℕ → Bool) → ((s : ℕ) → P (suc s) ≡ Q s) → many (suc m) P ≡ many m P + many m Q
 many-more m P Q e = many-suc m P ∙ ap (λ (n : ℕ). many m P + n) (many-cong m (λ s. P (suc s)) Q e)
 
@@ -93,12 +94,8 @@ unfolding choose
 many-size zero zero = one (λ s. eqb s 0) tt
 many-size zero (suc r) = none (λ s. eqb s (suc r)) (λ t. let e = eqb-out 0 (suc r) t in omega arith)
 many-size (suc m) zero =
-    many-suc m (λ s. eqb s 0) ∙ ap₂ _+_ (many-size m 0 ∙ first m) (never m (λ s. eqb (suc s) 0) (λ s t. let e = eqb-out (suc s) 0 t in omega arith))
+    many-suc m (λ s. eqb s 0) ∙ ap₂ _+_ (many-size m 0 ∙ choose-none m) (never m (λ s. eqb (suc s) 0) (λ s t. let e = eqb-out (suc s) 0 t in omega arith))
   where
-    first : (n : ℕ) → choose n 0 ≡ 1
-    first zero = refl
-    first (suc n) = refl
-
     never : (n : ℕ) (P : ℕ → Bool) → ((s : ℕ) → T (P s) → ⊥) → many n P ≡ 0
     never zero P f = none P (f 0)
     never (suc n) P f = many-suc n P ∙ ap₂ _+_ (never n P f) (never n (λ s. P (suc s)) (λ s. f (suc s)))

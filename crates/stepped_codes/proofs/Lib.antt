@@ -1,8 +1,8 @@
 pub mod Sizes
+pub mod Combinations
 pub mod Counting
 pub mod Listed
 pub mod Bounds
-pub mod Combinations
 pub mod Placing
 pub mod Distance
 pub mod Stepping

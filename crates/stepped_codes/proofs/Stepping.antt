@@ -3,7 +3,7 @@
 use mathlib.Core.Path.{_≡_, refl, sym, ap, _∙_}
 use mathlib.Core.Bool.{Bool, true, false}
 use mathlib.Core.Logic.{_⊎_, inl, inr}
-use mathlib.Core.List.{List, [], _∷_, map}
+use mathlib.Core.List.{List, [], _∷_, map, map-id}
 use Prim.Native.Nat.{ℕ, suc, _+_, _-_, _≤_, _<_}
 use native.Mathlib.Omega.{arith}
 use lib.Dec.{T, eqb}
@@ -65,10 +65,6 @@ step-pos d = go (eqb d 3)
 abbrev pub sizesFrom : ℕ → ℕ → ℕ → List ℕ
 sizesFrom d m s = coming (sizeOk d) (λ t. t) (suc m) s
 
-map-same : (xs : List ℕ) → map (λ x. x) xs ≡ xs
-map-same [] = refl
-map-same (x ∷ xs) = ap (λ (l : List ℕ). x ∷ l) (map-same xs)
-
 module _ (d m : ℕ) where
   pub sizes-none : (s : ℕ) → m < s → sizesFrom d m s ≡ []
   sizes-none s l = coming-none (sizeOk d) (λ t. t) (suc m) s l
@@ -79,7 +75,7 @@ module _ (d m : ℕ) where
     sizes-first =
         let e : 0 + (d - 1) ≡ d - 1 = omega arith in
         let z : suc m - 0 ≡ suc m = omega arith in
-        sym (map-same (filter (sizeOk d) (range 0 (suc m)))) ∙ ap (λ (n : ℕ). map (λ t. t) (filter (sizeOk d) (range 0 n))) (sym z)
+        sym (map-id (filter (sizeOk d) (range 0 (suc m)))) ∙ ap (λ (n : ℕ). map (λ t. t) (filter (sizeOk d) (range 0 n))) (sym z)
         ∙ coming-past (sizeOk d) (λ t. t) (suc m) 0 (d - 1) (λ s l h t. let b = least-size d ok s t in omega arith)
         ∙ ap (sizesFrom d m) e
 

@@ -51,8 +51,8 @@ choose zero (suc r) = 0
 choose (suc n) zero = 1
 choose (suc n) (suc r) = choose n r + choose n (suc r)
 
--- 2^(m-1) - m < k ≤ 2^m - m - 1 for d = 3, and 2^(m-2) - m + 1 < k ≤ 2^(m-1) - m for d = 4: times 2 or 4 where that rids it of a
--- fraction, and with what is taken away on one side added on the other
+-- 2^(m-1) - m < k ≤ 2^m - m - 1 for d = 3, and 2^(m-2) - m + 1 < k ≤ 2^(m-1) - m for d = 4, times 2 or 4 where the document halves, and
+-- with what it takes away on one side added on the other; another d is refused before
 unfoldable pub withinBounds : ℕ → ℕ → ℕ → Bool
 withinBounds d m k =
     if eqb d 3 then ltb (2 ^ m) (2 * (k + m)) && leb (k + m + 1) (2 ^ m) else

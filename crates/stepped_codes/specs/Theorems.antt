@@ -47,7 +47,7 @@ PlacedSized =
 abbrev pub PlacedWhole : Type 0
 PlacedWhole = (d m i : ℕ) → i < length (paritySets d m) → paritySet d m i ≡ placedAmong m (sizes d m) i
 
--- There are 2^m - m - 1 parity sets for d = 3, and 2^(m-1) - m for d = 4.
+-- There are 2^m - m - 1 parity sets for d = 3, and for m of 1 or more 2^(m-1) - m for d = 4.
 abbrev pub ParitySetCounts : Type 0
 ParitySetCounts =
     (m : ℕ) → (length (paritySets 3 m) + m + 1 ≡ 2 ^ m) × (length (paritySets 4 (suc m)) + suc m ≡ 2 ^ m)
@@ -61,7 +61,7 @@ BoundsPrinted =
     (n k : ℕ)
     → (T (withinBounds 3 (suc n) k) ↔ ((2 ^ n < k + suc n) × (k + suc n + 1 ≤ 2 ^ suc n)))
     × (T (withinBounds 4 (suc (suc n)) k) ↔ ((2 ^ n + 1 < k + suc (suc n)) × (k + suc (suc n) ≤ 2 ^ suc n)))
-    × ((d : ℕ) → T (withinBounds d 1 k) → 1 ≤ k → ⊥)
+    × ((d : ℕ) → T (withinBounds d 1 k) → ⊥)
 
 -- k is within them exactly where m parity disks have enough parity sets, and one parity disk less has not.
 abbrev pub BoundsCount : Type 0
@@ -82,7 +82,8 @@ Distance = (d m k S : ℕ) → T (distanceOk d) → T (withinBounds d m k) → T
 -- ---- the call
 
 -- What an accepted call leaves in the buffer: a card that the card check accepts, of k and m, in which data disk i goes into the parity disks of
--- its parity set; no set that the lister lists for it, into any slice that it accepts, is smaller than d, and one has d disks.
+-- its parity set, and there are enough parity sets, so that none is read past the list's end; no set that the lister lists for it, into any
+-- slice that it accepts, is smaller than d, and one has d disks.
 pub record RightStepped (d m k : ℕ) (buffer : List ℕ) : Type 0 where
   pub answer : steppedReport d m k (length buffer) ≡ accepted []
   pub read : cardReport (steppedBuffer d m k buffer) ≡ accepted (k ∷ m ∷ [])

@@ -7,7 +7,7 @@ use borrow.Author.Tests.{lt-ltb}
 use lib.Pow.{pow-mono}
 use Rattle.stepped_codes.specs.Stepped.{choose}
 use Rattle.stepped_codes.specs.Placing.{placed}
-use Rattle.stepped_codes.proofs.Combinations.{choose-none, choose-suc, placed-lt, placed-lacks, placed-has}
+use Rattle.stepped_codes.proofs.Combinations.{choose-none, choose-suc, choose-above, placed-lt, placed-lacks, placed-has}
 
 -- `set` is what the disks from j on have of the i-th set; what is left to find is the left-th set of `size` disks below j
 abbrev pub Going : ℕ → ℕ → ℕ → ℕ → ℕ → ℕ → ℕ → Type 0
@@ -15,12 +15,7 @@ Going m s i set size left j = (j ≤ m) × (size ≤ s) × (left < choose j size
 
 -- where disks are to be found, there is one
 pub going-some : (m s i set size left j : ℕ) → Going m s i set size left j → 0 < size → 0 < j
-unfolding choose
-going-some m s i set size left zero go h = absurd (none size h (go .2))
-  where
-    none : (t : ℕ) → 0 < t → left < choose 0 t → ⊥
-    none zero h l = omega arith
-    none (suc t) h l = omega arith
+going-some m s i set size left zero go h = absurd (let l = go .2 in omega (arith, choose-above 0 size h))
 going-some m s i set size left (suc j) go h = omega arith
 
 module _ (m s i set size left j lacking : ℕ) (go : Going m s i set size left j) (some : 0 < size) (count : lacking ≡ choose (j - 1) size) where

@@ -71,7 +71,7 @@ fn placed(rows: &[u8; 64], m: usize, s: usize, i: usize) -> u32
 
 // Data disk i's parity set for distance d and m parity disks: first its size, by the counts of the sizes before it.
 fn parity_set(rows: &[u8; 64], d: usize, m: usize, i: usize) -> u32
-    requires { ⌜ HasRow (now rows) m × T (distanceOk d) × (i < length (paritySets d m)) ⌝ }
+    requires { ⌜ HasRow (now rows) m × (m ≤ 6) × T (distanceOk d) × (i < length (paritySets d m)) ⌝ }
     ensures { λ r. ⌜ r ≡ paritySet d m i ⌝ }
 {
     let mut size = d - 1;
@@ -87,7 +87,7 @@ fn parity_set(rows: &[u8; 64], d: usize, m: usize, i: usize) -> u32
 
 // The parity sets of data disks 0 to k - 1, then zeros.
 pub fn sets(d: usize, m: usize, k: usize) -> [u32; 16]
-    requires { ⌜ T (distanceOk d) × (m ≤ 7) × (k ≤ 16) × (k ≤ length (paritySets d m)) ⌝ }
+    requires { ⌜ T (distanceOk d) × (m ≤ 6) × (k ≤ 16) × (k ≤ length (paritySets d m)) ⌝ }
     ensures { λ r. ⌜ r ≡ padded 16 (tabulate k (paritySet d m)) ⌝ }
 {
     let mut rows = [0u8; 64];

@@ -17,7 +17,7 @@ abbrev μ-loop : tie.MeasureT-loop
 μ-loop d m k rows out₀ i₀ out i = k - i
 
 binomials-requires : tie.Need-binomials-requires Inv-loop μ-loop
-binomials-requires c κs = (c .before .pre .1, refl)
+binomials-requires c κs = (omega arith, refl)
 
 loop-holds : tie.Need-loop-holds Inv-loop μ-loop
 loop-holds c = (omega arith, refl, fill-none 16 _)
@@ -26,7 +26,7 @@ parity-set-requires : tie.Need-parity-set-requires Inv-loop μ-loop
 parity-set-requires c κs =
     let s = c .before .before .before in
     let p = s .before .before .pre in
-    ((s .before .before .args .m, s .binomials .ensures, omega arith, p .1), p .0, omega (arith, p .3))
+    ((s .before .before .args .m, s .binomials .ensures, omega arith, omega arith), p .1, p .0, omega (arith, p .3))
 
 mul-out : tie.Need-mul-out Inv-loop μ-loop
 mul-out c = search needs
