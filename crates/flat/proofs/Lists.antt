@@ -90,7 +90,7 @@ getD-zeros (suc n) zero = refl
 getD-zeros (suc n) (suc i) = getD-zeros n i
 
 -- the list's entries, then zeros
-getD-padded : (n i : ℕ) (xs : List ℕ) → getD (padded n xs) i 0 ≡ getD xs i 0
+pub getD-padded : (n i : ℕ) (xs : List ℕ) → getD (padded n xs) i 0 ≡ getD xs i 0
 unfolding padded
 getD-padded n i xs = go (below-or i (length xs))
   where

@@ -168,6 +168,10 @@ not-has S i e t = let z : bit S i ≡ 1 = has-out S i t in omega arith
 pub no-disk : (i : ℕ) → T (has 0 i) → ⊥
 no-disk i = not-has 0 i (bit-of-zero i)
 
+pub has-pos : (S i : ℕ) → T (has S i) → 1 ≤ S
+has-pos zero i t = absurd (no-disk i t)
+has-pos (suc S) i t = omega arith
+
 -- the same as the test's value, for `rw`
 pub has-one : (S i : ℕ) → bit S i ≡ 1 → has S i ≡ true
 has-one S i e = T-true (has-in S i e)

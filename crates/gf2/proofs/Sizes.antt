@@ -1,7 +1,7 @@
 -- How many disks a set holds, and how many rows `within` must leave: one for each disk outside the set at most is dropped.
 -- Assumes nothing.
 use mathlib.Core.Path.{_≡_, refl, sym, ap, ap₂, _∙_, subst}
-use mathlib.Core.Logic.{_⊎_, inl, inr, ⊎-elim}
+use mathlib.Core.Logic.{_⊎_, inl, inr, _≢_, ⊎-elim}
 use mathlib.Core.List.{List, [], _∷_, map}
 use Prim.Native.Nat.{ℕ, _+_, _-_, _*_, _/_, _%_, _^_, _≤_, _<_}
 use native.Mathlib.Nat.{mod-eq-of-lt}
@@ -87,7 +87,7 @@ size-⊆ R S t =
     let e : S ∩ R ≡ R = and-comm S R ∙ eqb-out (R ∩ S) R t in
     omega (arith, size-split S R, ap size e)
 
--- an XOR: what both hold is in neither
+-- an XOR lacks what both hold
 low-⊕ : (R S : ℕ) → (R ⊕ S) % 2 + 2 * ((R ∩ S) % 2) ≡ R % 2 + S % 2
 low-⊕ R S =
     ap₂ (λ (x y : ℕ). x + 2 * y) (sym (bit-low (R ⊕ S)) ∙ bit-⊕ R S 0) (sym (bit-low (R ∩ S)) ∙ bit-∩ R S 0)
@@ -108,10 +108,12 @@ size-⊕ =
     let b : ones (R ∩ S) ≡ (R ∩ S) % 2 + ones ((R / 2) ∩ (S / 2)) = ones-step (R ∩ S) ∙ ap (λ (x : ℕ). (R ∩ S) % 2 + ones x) (half-∩ R S) in
     omega (arith, a, b, ones-step R, ones-step S, ih (S / 2), low-⊕ R S))
 
--- a set of no disk, and of one
+-- a set of some disk, of no disk, and of one
+pub size-pos : (S : ℕ) → S ≢ 0 → 1 ≤ size S
+size-pos S f = omega (arith, size-less S (lowest S) (lowest-has S f))
+
 pub size-none : (S : ℕ) → size S ≡ 0 → S ≡ 0
-size-none S e =
-    ⊎-elim (eqb-out S 0) (λ f. absurd (let h = size-less S (lowest S) (lowest-has S (λ z. f (eqb-in z))) in omega arith)) (dec (eqb S 0))
+size-none S e = ⊎-elim (eqb-out S 0) (λ f. absurd (omega (arith, size-pos S (λ z. f (eqb-in z))))) (dec (eqb S 0))
 
 pub size-one : (S : ℕ) → size S ≡ 1 → S ≡ 2 ^ lowest S
 size-one S e =

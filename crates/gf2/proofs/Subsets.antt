@@ -188,6 +188,9 @@ pub ⊆-le : (R S : ℕ) → T (R ⊆ S) → R ≤ S
 unfolding _⊆_ _∩_
 ⊆-le R S t = subst (λ (x : ℕ). x ≤ S) (eqb-out (R ∩ S) R t) (and-le-r R S)
 
+pub ∖-le : (R S : ℕ) → R ∖ S ≤ R
+∖-le R S = ⊆-le (R ∖ S) R (⊆-in (R ∖ S) R (λ i t. ∖-out R S i t .0))
+
 -- ---- the lowest disk
 
 half-nonzero : (S : ℕ) → S ≢ 0 → S % 2 ≡ 0 → S / 2 ≢ 0

@@ -7,13 +7,13 @@ use Prim.Native.Nat.{ℕ, suc, _+_, _-_, _*_, _^_, _≤_, _<_}
 use native.Mathlib.Omega.{arith}
 use borrow.Author.Tests.{lt-ltb, le-ltb, eq-eqb, ne-eqb}
 use lib.Dec.{T, eqb, leb}
-use lib.ListN.{length, getD, take, replicate, length-take, List·getD-append}
+use lib.ListN.{length, getD, take, length-take}
 use Rattle.gf2.specs.Sets.{has}
 use Rattle.gf2.proofs.Made.{set-cong}
 use Rattle.flat.specs.Lists.{setOf, padded, tabulate}
 use Rattle.flat.specs.Cards.{code, countOk, cardLength, cardBytes}
 use Rattle.flat.specs.Faults.{Report, accepted, refused, cardWriteBuffer}
-use Rattle.flat.proofs.Lists.{length-padded, take-padded, length-tabulate, getD-tabulate}
+use Rattle.flat.proofs.Lists.{length-padded, getD-padded, take-padded, length-tabulate, getD-tabulate}
 use Rattle.flat.proofs.Cards.{count-in}
 use Rattle.flat.proofs.Reports.{unless-refused}
 use Rattle.stepped_codes.specs.Stepped.{distanceOk, paritySets, paritySet, steppedColumn, stepped, withinBounds}
@@ -85,14 +85,13 @@ module _ (d m k n : ℕ) where
 -- the data disks whose set has the disk, out of the array of their sets
 pub column-is : (d m k j c : ℕ) (sets : List ℕ) → sets ≡ padded 16 (tabulate k (paritySet d m)) → c ≡ setOf k (λ i. has (getD sets i 0) j)
     → c ≡ steppedColumn d m k j
-unfolding steppedColumn padded
+unfolding steppedColumn
 column-is d m k j c sets e is =
     let f = paritySet d m in
     is
     ∙ set-cong k (λ i. has (getD sets i 0) j) (λ i. has (f i) j)
     (λ i l. ap (λ (S : ℕ). has S j)
-    (ap (λ (xs : List ℕ). getD xs i 0) e ∙ List·getD-append (tabulate k f) (replicate (16 - length (tabulate k f)) 0) 0 i (omega (arith, length-tabulate k f))
-    ∙ getD-tabulate k f i l))
+    (ap (λ (xs : List ℕ). getD xs i 0) e ∙ getD-padded 16 i (tabulate k f) ∙ getD-tabulate k f i l))
 
 pub sets-long : (d m k : ℕ) (sets : List ℕ) → k ≤ 16 → sets ≡ padded 16 (tabulate k (paritySet d m)) → length sets ≡ 16
 sets-long d m k sets l e = ap length e ∙ length-padded 16 (tabulate k (paritySet d m)) (omega (arith, length-tabulate k (paritySet d m)))

@@ -34,7 +34,7 @@ fn distance_ok(d: usize) -> bool
     d == 4
 }
 
-// Whether k is within the bounds for d and m.
+// Whether k is within the bounds for d and m: `all` is 2^m, and the bounds are put as in stepped_codes/specs/Stepped.antt.
 fn within_bounds(d: usize, m: usize, k: usize) -> bool
     requires { ⌜ (m ≤ 16) × (k ≤ 16) ⌝ }
     ensures { λ r. ⌜ r ≡ withinBounds d m k ⌝ }
@@ -102,7 +102,7 @@ fn columns(d: usize, m: usize, k: usize) -> [u16; 16]
     out
 }
 
-// The card of d, m and k into a buffer of exactly its length.
+// The card of d, m and k into a buffer of exactly its length. The card writer refuses nothing that comes from here.
 pub fn write(d: usize, m: usize, k: usize, out: &mut [u8]) -> SteppedWritten
     ensures { λ r. ⌜ report r ≡ steppedReport d m k (length (now (out .entry))) ⌝ }
     ensures { λ _. ⌜ now (out .exit) ≡ steppedBuffer d m k (now (out .entry)) ⌝ }

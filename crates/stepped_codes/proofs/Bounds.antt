@@ -8,7 +8,9 @@ use native.Mathlib.Nat.{pow-suc}
 use native.Mathlib.Omega.{arith}
 use lib.Dec.{T, eqb, leb, ltb}
 use lib.ListN.{length}
+use lib.Pow.{pow-mono}
 use Rattle.gf2.specs.If.{if_then_else_}
+use Rattle.gf2.proofs.Bits.{lt-pow}
 use Rattle.gf2.proofs.Tests.{ltb-in, ltb-out, leb-in, leb-out, and-in, and-out, below-or}
 use Rattle.stepped_codes.specs.Stepped.{paritySets, withinBounds}
 use Rattle.stepped_codes.specs.Theorems.{BoundsPrinted, BoundsCount, SixAtMost}
@@ -49,9 +51,16 @@ module _ (m k : ℕ) where
       go true x y t = inl t
       go false x y t = inr t
 
--- with no parity disk there is none
+-- with no parity disk, and with one, there is none
+none-within : (d m k : ℕ) → m ≤ 1 → T (withinBounds d m k) → ⊥
+none-within d m k l t =
+    let p : 2 ^ m ≤ 2 = pow-mono {i = m} {j = 1} l in
+    let q : m < 2 ^ m = lt-pow m in
+    ⊎-elim (λ u. let o = three-out m k u in let a = o .0 in let b = o .1 in omega arith)
+    (λ u. let o = four-out m k u in let a = o .0 in let b = o .1 in omega arith) (either m k d t)
+
 pub no-parity : (d k : ℕ) → T (withinBounds d 0 k) → ⊥
-no-parity d k t = ⊎-elim (λ u. let p = three-out 0 k u in let a = p .0 in let b = p .1 in omega arith) (λ u. let p = four-out 0 k u in let a = p .0 in let b = p .1 in omega arith) (either 0 k d t)
+no-parity d k = none-within d 0 k (omega arith)
 
 -- ---- as printed
 
@@ -73,8 +82,7 @@ bounds-printed n k = (
         let b = p .1 in
         four-in (suc (suc n)) k (omega (arith, pow-suc 2 n, pow-suc 2 (suc n))) (omega (arith, pow-suc 2 (suc n))),
   ),
-  λ d t. ⊎-elim (λ u. let p = three-out 1 k u in let a = p .0 in let b = p .1 in omega arith)
-      (λ u. let p = four-out 1 k u in let a = p .0 in let b = p .1 in omega arith) (either 1 k d t),
+  λ d. none-within d 1 k (omega arith),
 )
 
 -- ---- as counts

@@ -12,7 +12,7 @@ use lib.ListN.{length, getD}
 use lib.Pow.{pow-mono}
 use Rattle.gf2.specs.Sets.{has, size, over}
 use Rattle.gf2.proofs.Tests.{T-true, leb-in, ltb-in, and-in, eqb-out, below-or}
-use Rattle.gf2.proofs.Bits.{no-disk}
+use Rattle.gf2.proofs.Bits.{has-pos}
 use Rattle.gf2.proofs.Subsets.{⊆-refl}
 use Rattle.gf2.proofs.Sizes.{size-lt, size-power}
 use Rattle.gf2.proofs.Sums.{over-disk}
@@ -114,11 +114,7 @@ module _ (d n k : ℕ) (ok : T (distanceOk d)) (within : T (withinBounds d (suc 
       let i-lt : v .0 < k = omega (arith, count-least n, few) in
       let t : T (has (paritySet d (suc n) (v .0)) j) = subst (λ (S : ℕ). T (has S j)) (sym (least-placed (v .0) (v .2))) (v .3) in
       let p : ℕ → Bool = λ i. has (paritySet d (suc n) i) j in
-      T-true (and-in (leb 1 (setOf k p)) (ltb (setOf k p) (2 ^ k)) (leb-in (pos (setOf k p) (v .0) (set-in k p (v .0) i-lt t))) (ltb-in (set-lt k p)))
-    where
-      pos : (S i : ℕ) → T (has S i) → 1 ≤ S
-      pos zero i t = absurd (no-disk i t)
-      pos (suc S) i t = omega arith
+      T-true (and-in (leb 1 (setOf k p)) (ltb (setOf k p) (2 ^ k)) (leb-in (has-pos (setOf k p) (v .0) (set-in k p (v .0) i-lt t))) (ltb-in (set-lt k p)))
 
   pub stepped-sound : countOk k ≡ true → countOk (suc n) ≡ true → Sound (stepped d (suc n) k)
   unfolding stepped

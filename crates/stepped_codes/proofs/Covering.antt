@@ -38,7 +38,7 @@ first-has j r =
 abbrev Covered : ℕ → ℕ → ℕ → Type 0
 Covered n s j = (i : ℕ) × (i ≤ choose n s) × (i < choose (suc n) s) × T (has (placed (suc n) s i) j)
 
--- that one, where it holds the disk
+-- the first set that has disk n, where it holds disk j
 by-first : (n r j : ℕ) → r ≤ n → T (has (2 ^ n + placed n r 0) j) → Covered n (suc r) j
 by-first n r j l t = (choose n (suc r), omega arith, omega (arith, choose-suc n r, choose-pos n r l), subst (λ (S : ℕ). T (has S j)) (sym (first-has n r)) t)
 

@@ -12,8 +12,8 @@ use Rattle.gf2.specs.Within.{lowest}
 use Rattle.gf2.proofs.Tests.{dec, eqb-in, eqb-out}
 use Rattle.gf2.proofs.Bits.{bit-shift, ext-below}
 use Rattle.gf2.proofs.Xor.{⊕-cancel, zero-⊕}
-use Rattle.gf2.proofs.Subsets.{∖-out, power-in, lowest-has, lowest-lt, ⊆-in, ⊆-le}
-use Rattle.gf2.proofs.Sizes.{size-less, size-⊆}
+use Rattle.gf2.proofs.Subsets.{∖-out, ∖-le, power-in, lowest-has, lowest-lt}
+use Rattle.gf2.proofs.Sizes.{size-less, size-pos, size-⊆}
 use Rattle.gf2.proofs.Sums.{over-cong, over-none, over-bit, over-lt, over-comm, over-without, if-has}
 use Rattle.flat.specs.Lists.{setOf, tabulate}
 use Rattle.flat.specs.Cards.{Code, code, disks, column, dataPart}
@@ -24,13 +24,6 @@ use Rattle.flat.proofs.Counts.{size-count, over-odd}
 use Rattle.flat.proofs.Quantifiers.{bit-set}
 use Rattle.flat.proofs.Words.{holds-parity, codeword-lt, codeword-bit, codeword-data}
 use Rattle.flat.proofs.Fatal.{fatal-out}
-
-size-pos : (S : ℕ) → S ≢ 0 → 1 ≤ size S
-size-pos S f = omega (arith, size-less S (lowest S) (lowest-has S f))
-
--- a set with a disk taken out is no larger a number
-less-le : (S d : ℕ) → S ∖ 2 ^ d ≤ S
-less-le S d = ⊆-le (S ∖ 2 ^ d) S (⊆-in (S ∖ 2 ^ d) S (λ i t. ∖-out S (2 ^ d) i t .0))
 
 module _ (m k : ℕ) (f : ℕ → ℕ) (low : (i : ℕ) → i < k → f i < 2 ^ m) where
   abbrev columnOf : ℕ → ℕ
@@ -94,7 +87,7 @@ module _ (m k : ℕ) (f : ℕ → ℕ) (low : (i : ℕ) → i < k → f i < 2 ^ 
       -- f i and f j
       pair : x' ≢ 0 → x' ∖ 2 ^ j ≡ 0 → 1 ≤ size (over k x f)
       pair h e =
-          let l' : x' < 2 ^ k = omega (arith, less-le x i) in
+          let l' : x' < 2 ^ k = omega (arith, ∖-le x (2 ^ i)) in
           let is : over k x f ≡ f j ⊕ f i =
           over-low x g l ∙ ap (λ (y : ℕ). y ⊕ f i) (over-low x' h l' ∙ ap (λ (y : ℕ). over k y f ⊕ f j) e ∙ ap (λ (y : ℕ). y ⊕ f j) (over-none k f) ∙ zero-⊕ (f j)) in
           let other : j ≢ i = λ q. ∖-out x (2 ^ i) j (lowest-has x' h) .1 (subst (λ (y : ℕ). T (has (2 ^ i) y)) (sym q) (power-in i)) in

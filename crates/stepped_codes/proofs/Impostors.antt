@@ -21,8 +21,8 @@ unfolding Impostors.byNumber
 not-by-number = refl
 
 pub not-by-one : Impostors.NotByOne
-unfolding Impostors.byOne paritySets fatal size
-not-by-one = (refl, refl, refl, refl)
+unfolding Impostors.byOne fatal size
+not-by-one = (refl, refl, refl)
 
 pub not-one-size : Impostors.NotOneSize
 unfolding paritySets filter range size

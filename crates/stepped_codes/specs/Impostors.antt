@@ -22,7 +22,7 @@ Lists =
     (paritySets 3 4 ≡ 3 ∷ 5 ∷ 6 ∷ 9 ∷ 10 ∷ 12 ∷ 7 ∷ 11 ∷ 13 ∷ 14 ∷ 15 ∷ [])
     × (paritySets 4 5 ≡ 7 ∷ 11 ∷ 13 ∷ 14 ∷ 19 ∷ 21 ∷ 22 ∷ 25 ∷ 26 ∷ 28 ∷ 31 ∷ [])
 
--- lexicographic order among sets of one size, which Table II of document 002 has: by their lowest disk, then the next
+-- lexicographic order among sets of one size, which gives the figures of Table II of document 002: by their lowest disk, then the next
 unfoldable pub lexicographic : ℕ → ℕ → List ℕ
 unfolding orderedBy size setOf has filter sizeOk range
 lexicographic d m =
@@ -48,11 +48,11 @@ unfoldable pub byOne : ℕ → ℕ → List ℕ
 unfolding orderedBy size filter range
 byOne b m = orderedBy size (suc m) (filter (λ S. leb b (size S)) (range 0 (2 ^ m)))
 
--- With steps of one for d = 4, four parity disks would have 15 besides, the set of all four. Data disks with the sets 7 and 15, and the parity
--- disk that tells them apart, are three disks whose loss is fatal.
+-- With steps of one for d = 4, the eleventh set of five parity disks would be 15 in place of 31. Two data disks with the sets 7 and 15, and the
+-- parity disk that tells them apart, are three disks whose loss is fatal: so they are in the code of just these two data disks.
 abbrev pub NotByOne : Type 0
 NotByOne =
-    (paritySets 4 4 ≡ 7 ∷ 11 ∷ 13 ∷ 14 ∷ []) × (byOne 3 4 ≡ 7 ∷ 11 ∷ 13 ∷ 14 ∷ 15 ∷ [])
+    (take 11 (byOne 3 5) ≡ 7 ∷ 11 ∷ 13 ∷ 14 ∷ 19 ∷ 21 ∷ 22 ∷ 25 ∷ 26 ∷ 28 ∷ 15 ∷ [])
     × (fatal (code 2 4 (3 ∷ 3 ∷ 3 ∷ 2 ∷ [])) 35 ≡ true) × (size 35 ≡ 3)
 
 -- Sets of size d - 1 alone are too few: with three parity disks, three of the four.

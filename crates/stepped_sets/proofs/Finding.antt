@@ -43,9 +43,9 @@ module _ (d m i : ℕ) (ok : T (distanceOk d)) where
     opened = sizes-next d m ok size (f .0) finding-size
 
     -- it is not of this size
-    pub finding-next : (here up : ℕ) → here ≡ choose m size → up ≡ step d → here ≤ left → Finding d m i (size + up) (left - here)
+    pub finding-next : (here next : ℕ) → here ≡ choose m size → next ≡ size + step d → here ≤ left → Finding d m i next (left - here)
     unfolding counted placedAmong
-    finding-next here up e u l =
+    finding-next here next e u l =
         let h : choose m size ≤ left = omega arith in
         let less : left < choose m size + counted m (sizesFrom d m (size + step d)) = subst (λ (ss : List ℕ). left < counted m ss) opened (f .1) in
         rw (e, u) (

@@ -24,13 +24,13 @@ abbrev binomials-below : ℕ → In 1 binomials-kinds.ps
 binomials-below t =
     and 1 binomials-kinds.ps (falls 1 binomials-kinds.ps _<_ μ-binomials t) binomials.Pre
 
-binomials-element-write-rows : (t : ℕ) → binomials-lts.Need-element-write-rows (
+binomials-element-write-counts : (t : ℕ) → binomials-lts.Need-element-write-counts (
   binomials-below t,
   binomials.Post,
   add-row-reads.Asked,
   add-row-reads.Learnt,
 ) (binomials-at t) binomials.Post
-binomials-element-write-rows t c = omega (arith, ap length (c .before .pre .1 .1))
+binomials-element-write-counts t c = omega (arith, ap length (c .before .pre .1 .1))
 
 binomials-sub-binomials : (t : ℕ) → binomials-lts.Need-sub-binomials (
   binomials-below t,
@@ -81,7 +81,7 @@ pub +binomials-spec : {M : Type 1} → statement M
 )
     (binomials-at t)
     binomials.Post
-    (binomials-element-write-rows t)
+    (binomials-element-write-counts t)
     (binomials-sub-binomials t)
     (binomials-binomials-requires t)
     (binomials-add-row-requires t)

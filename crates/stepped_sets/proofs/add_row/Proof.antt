@@ -10,56 +10,56 @@ use Rattle.stepped_sets.proofs.add_row.Statement.{statement}
 use Rattle.stepped_sets.proofs.add_row.Tie as tie
 
 abbrev Inv-loop : tie.InvT-loop
-Inv-loop rows₀ n at r₀ rows r = (1 ≤ r) × (r ≤ 8) × (length rows ≡ 64) × Filled rows (at + r)
+Inv-loop counts₀ n at above r₀ counts r = (1 ≤ r) × (r ≤ 8) × (length counts ≡ 64) × Filled counts (at + r)
 
 abbrev μ-loop : tie.MeasureT-loop
-μ-loop rows₀ n at r₀ rows r = 8 - r
+μ-loop counts₀ n at above r₀ counts r = 8 - r
 
 -- the rows above
-under : (c : tie.Start Inv-loop μ-loop) → Filled (now (c .args .rows)) (8 * c .args .n)
+under : (c : tie.Start Inv-loop μ-loop) → Filled (now (c .args .counts)) (8 * c .args .n)
 under c = filled-rows (c .args .n - 1) _ _ (omega arith) (c .pre .2)
 
 mul-at : tie.Need-mul-at Inv-loop μ-loop
 mul-at c = search needs
 
-element-write-rows : tie.Need-element-write-rows Inv-loop μ-loop
-element-write-rows c = omega (arith, filled-long _ _ (under c) (omega arith))
+sub-above : tie.Need-sub-above Inv-loop μ-loop
+sub-above c = omega arith
+
+element-write-counts : tie.Need-element-write-counts Inv-loop μ-loop
+element-write-counts c = omega (arith, filled-long _ _ (under c) (omega arith))
 
 loop-holds : tie.Need-loop-holds Inv-loop μ-loop
 loop-holds c =
     let n = c .args .n in
-    let e = filled-start n (8 * n) (λ z. omega arith) (omega arith) refl _ (under c) in
+    let e = filled-start n (omega arith) (omega arith) _ (under c) in
     (omega arith, omega arith, filled-long _ _ e (omega arith), e)
 
-add-rows : tie.Need-add-rows Inv-loop μ-loop
-add-rows c = search needs
+add-counts : tie.Need-add-counts Inv-loop μ-loop
+add-counts c = search needs
 
-sub-rows : tie.Need-sub-rows Inv-loop μ-loop
-sub-rows c = search needs
+sub-counts : tie.Need-sub-counts Inv-loop μ-loop
+sub-counts c = search needs
 
-element-copy-out-rows : tie.Need-element-copy-out-rows Inv-loop μ-loop
-element-copy-out-rows c = search needs
+element-copy-out-counts : tie.Need-element-copy-out-counts Inv-loop μ-loop
+element-copy-out-counts c = search needs
 
-add-rows-2 : tie.Need-add-rows-2 Inv-loop μ-loop
-add-rows-2 c = search needs
+add-counts-2 : tie.Need-add-counts-2 Inv-loop μ-loop
+add-counts-2 c = search needs
 
-sub-rows-2 : tie.Need-sub-rows-2 Inv-loop μ-loop
-sub-rows-2 c = search needs
+element-copy-out-counts-2 : tie.Need-element-copy-out-counts-2 Inv-loop μ-loop
+element-copy-out-counts-2 c = search needs
 
-element-copy-out-rows-2 : tie.Need-element-copy-out-rows-2 Inv-loop μ-loop
-element-copy-out-rows-2 c = search needs
-
-add-rows-3 : tie.Need-add-rows-3 Inv-loop μ-loop
-add-rows-3 c =
+add-counts-3 : tie.Need-add-counts-3 Inv-loop μ-loop
+add-counts-3 c =
     let n = c .before .before .before .before .args .n in
     let l = c .before .before .before .loop in
-    record { fits = count-fits n (8 * n) (λ z. omega arith) (omega arith) refl (l .rows) (l .r) (l .inv .0) (omega arith) (l .inv .3) }
+    record { fits = count-fits n (omega arith) (omega arith) (l .counts) (l .r) (l .inv .0) (omega arith) (l .inv .3) }
 
-add-rows-4 : tie.Need-add-rows-4 Inv-loop μ-loop
-add-rows-4 c = search needs
+add-counts-4 : tie.Need-add-counts-4 Inv-loop μ-loop
+add-counts-4 c = search needs
 
-element-write-rows-2 : tie.Need-element-write-rows-2 Inv-loop μ-loop
-element-write-rows-2 c = search needs
+element-write-counts-2 : tie.Need-element-write-counts-2 Inv-loop μ-loop
+element-write-counts-2 c = search needs
 
 add-r : tie.Need-add-r Inv-loop μ-loop
 add-r c = search needs
@@ -71,7 +71,7 @@ loop-again : tie.Need-loop-again Inv-loop μ-loop
 loop-again c =
     let n = c .before .before .before .before .args .n in
     let l = c .before .before .before .loop in
-    let e = filled-next n (8 * n) (λ z. omega arith) (omega arith) refl (l .rows) (l .r) (l .inv .0) (omega arith) (l .inv .3) _ refl in
+    let e = filled-next n (omega arith) (omega arith) (l .counts) (l .r) (l .inv .0) (omega arith) (l .inv .3) in
     (omega arith, omega arith, filled-long _ _ e (omega arith), e)
 
 returns : tie.Need-returns Inv-loop μ-loop
@@ -84,17 +84,17 @@ add-row-spec =
     Inv-loop
     μ-loop
     mul-at
-    element-write-rows
+    sub-above
+    element-write-counts
     loop-holds
-    add-rows
-    sub-rows
-    element-copy-out-rows
-    add-rows-2
-    sub-rows-2
-    element-copy-out-rows-2
-    add-rows-3
-    add-rows-4
-    element-write-rows-2
+    add-counts
+    sub-counts
+    element-copy-out-counts
+    add-counts-2
+    element-copy-out-counts-2
+    add-counts-3
+    add-counts-4
+    element-write-counts-2
     add-r
     loop-less
     loop-again

@@ -1,6 +1,5 @@
 -- choose meets its contract. Assumes nothing.
 use native.Mathlib.Omega.{arith}
-use borrow.Author.Needs.{needs}
 use Rattle.stepped_sets.proofs.Rows.{has-few, rows-long, counted, count-small}
 use Rattle.stepped_sets.proofs.choose.Statement.{statement}
 use Rattle.stepped_sets.proofs.choose.Tie as tie

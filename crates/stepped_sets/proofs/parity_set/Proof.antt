@@ -9,20 +9,20 @@ use Rattle.stepped_sets.proofs.parity_set.Statement.{statement}
 use Rattle.stepped_sets.proofs.parity_set.Tie as tie
 
 abbrev Inv-loop : tie.InvT-loop
-Inv-loop rows d m i size₀ left₀ here₀ size left here = (here ≡ choose m size) × Finding d m i size left
+Inv-loop counts d m i size₀ left₀ here₀ size left here = (here ≡ choose m size) × Finding d m i size left
 
 abbrev μ-loop : tie.MeasureT-loop
-μ-loop rows d m i size₀ left₀ here₀ size left here = m + 1 - size
+μ-loop counts d m i size₀ left₀ here₀ size left here = m + 1 - size
 
--- the next size, by the code's step
-next : (c : tie.In-loop Inv-loop μ-loop) (up : ℕ) →
+-- the next size
+next : (c : tie.In-loop Inv-loop μ-loop) (size : ℕ) →
     let a = c .before .before .before .args in
     let l = c .before .loop in
-    up ≡ step (a .d) → Finding (a .d) (a .m) (a .i) (l .size + up) (l .left - l .here)
-next c up e =
+    size ≡ l .size + step (a .d) → Finding (a .d) (a .m) (a .i) size (l .left - l .here)
+next c size e =
     let s = c .before .before .before in
     let l = c .before .loop in
-    finding-next (s .args .d) (s .args .m) (s .args .i) (s .pre .2) (l .size) (l .left) (l .inv .1) (l .here) up (l .inv .0) e (c .loop-test .taken)
+    finding-next (s .args .d) (s .args .m) (s .args .i) (s .pre .2) (l .size) (l .left) (l .inv .1) (l .here) size (l .inv .0) e (c .loop-test .taken)
 
 -- is none past m
 next-size : (c : tie.In-loop Inv-loop μ-loop) →

@@ -11,10 +11,10 @@ use Rattle.stepped_sets.proofs.placed.Statement.{statement}
 use Rattle.stepped_sets.proofs.placed.Tie as tie
 
 abbrev Inv-loop : tie.InvT-loop
-Inv-loop rows m s i set₀ size₀ left₀ j₀ set size left j = Going m s i set size left j
+Inv-loop counts m s i set₀ size₀ left₀ j₀ set size left j = Going m s i set size left j
 
 abbrev μ-loop : tie.MeasureT-loop
-μ-loop rows m s i set₀ size₀ left₀ j₀ set size left j = j
+μ-loop counts m s i set₀ size₀ left₀ j₀ set size left j = j
 
 loop-holds : tie.Need-loop-holds Inv-loop μ-loop
 loop-holds c = (omega arith, omega arith, c .pre .2, zero-add (placed _ _ _))

@@ -11,10 +11,10 @@ use Rattle.stepped_sets.proofs.sets.Statement.{statement}
 use Rattle.stepped_sets.proofs.sets.Tie as tie
 
 abbrev Inv-loop : tie.InvT-loop
-Inv-loop d m k rows out₀ i₀ out i = (i ≤ k) × (length out ≡ 16) × (out ≡ padded 16 (tabulate i (paritySet d m)))
+Inv-loop d m k counts out₀ i₀ out i = (i ≤ k) × (length out ≡ 16) × (out ≡ padded 16 (tabulate i (paritySet d m)))
 
 abbrev μ-loop : tie.MeasureT-loop
-μ-loop d m k rows out₀ i₀ out i = k - i
+μ-loop d m k counts out₀ i₀ out i = k - i
 
 binomials-requires : tie.Need-binomials-requires Inv-loop μ-loop
 binomials-requires c κs = (omega arith, refl)
