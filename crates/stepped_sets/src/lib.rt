@@ -25,8 +25,8 @@ fn add_row(counts: &mut [u8; 64], n: usize)
     }
 }
 
-// Fills rows 0 to n of Pascal's triangle into a table of zeros, eight places a row: place r of row p counts the sets of
-// r of p disks.
+// Fills rows 0 to n of Pascal's triangle into a table of zeros, the rows above first. A row has eight places: place r
+// of row p counts the sets of r of p disks.
 fn binomials(counts: &mut [u8; 64], n: usize)
     requires { ⌜ (n ≤ 7) × (now counts ≡ replicate 64 0) ⌝ }
     ensures { λ _. ⌜ now (counts .exit) ≡ rowsTo n ⌝ }

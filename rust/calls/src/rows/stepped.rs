@@ -62,8 +62,8 @@ fn any_stepped(choice: &mut Choice) -> Input {
     of_numbers(distance, m, k, choice.length(2 + 2 * m.clamp(1, 16)))
 }
 
-/// Each distance up to 20 with each length of the buffer; of no disks, each distance, m and k up to 20, with a buffer that fits and two that
-/// don't.
+/// Each distance up to 20 with each length of the buffer; and once, at n = 0, each distance, m and k up to 20, with a buffer that fits and two
+/// that don't.
 fn every_stepped(n: usize, _: &mut Choice, then: &mut dyn FnMut(&Input)) {
     for distance in 0..=20 {
         for k in 1..n {
