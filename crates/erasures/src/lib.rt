@@ -84,13 +84,3 @@ pub fn list(card: &[u8], out: &mut [u32]) -> Listing
         CardCheck::Good { k, m } => list_columns(card::columns(card), k, m, out),
     }
 }
-
-// The vector of the columns of an accepted card, without the list.
-pub fn count_columns(columns: &[u8], k: usize, m: usize) -> [usize; 17]
-    requires { ⌜ Columns k m (now columns) ⌝ }
-    ensures { λ r. ⌜ r ≡ padded 17 (vector (codeIn k m (now (columns .entry)))) ⌝ }
-{
-    let basis = bases::rows(columns, k, m);
-    let mut marks = [0u64; 1024];
-    vector(minimal_marks::mark(basis, k + m, 0, 0, &mut marks), m)
-}

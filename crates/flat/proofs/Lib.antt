@@ -5,6 +5,7 @@ pub mod Cards
 pub mod RoundTrip
 pub mod Quantifiers
 pub mod Counts
+pub mod Permuting
 pub mod Words
 pub mod Rows
 pub mod Fatal

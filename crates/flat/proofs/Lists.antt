@@ -52,6 +52,12 @@ map-range f a (suc n) =
     ap₂ _∷_ (ap f (sym (add-zero a)))
     (map-range f (suc a) n ∙ tabulate-cong n (λ i. f (suc a + i)) (λ i. f (a + suc i)) (λ i l. ap f (let e : suc a + i ≡ a + suc i = omega arith in e)))
 
+-- an entry of a mapped list
+pub entry-map : (f : ℕ → ℕ) (xs : List ℕ) (i : ℕ) → i < length xs → getD (map f xs) i 0 ≡ f (getD xs i 0)
+entry-map f [] i l = absurd (not-suc-le-zero l)
+entry-map f (x ∷ xs) zero l = refl
+entry-map f (x ∷ xs) (suc i) l = entry-map f xs i (omega arith)
+
 -- ---- padded lists
 
 pub length-padded : (n : ℕ) (xs : List ℕ) → length xs ≤ n → length (padded n xs) ≡ n

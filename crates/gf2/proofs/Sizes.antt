@@ -1,7 +1,7 @@
 -- How many disks a set holds, and how many rows `within` must leave: one for each disk outside the set at most is dropped.
 -- Assumes nothing.
 use mathlib.Core.Path.{_≡_, refl, sym, ap, ap₂, _∙_, subst}
-use mathlib.Core.Logic.{_⊎_, inl, inr, _≢_, ⊎-elim}
+use mathlib.Core.Logic.{_⊎_, inl, inr, _≢_, _↔_, ⊎-elim}
 use mathlib.Core.List.{List, [], _∷_, map}
 use Prim.Native.Nat.{ℕ, _+_, _-_, _*_, _/_, _%_, _^_, _≤_, _<_}
 use native.Mathlib.Nat.{mod-eq-of-lt}
@@ -121,6 +121,13 @@ size-one S e =
     let h = size-less S (lowest S) m in
     let n : S ∖ 2 ^ lowest S ≡ 0 = size-none (S ∖ 2 ^ lowest S) (omega arith) in
     sym (less-back S (lowest S) m) ∙ ap (λ (x : ℕ). x ⊕ 2 ^ lowest S) n ∙ zero-⊕ (2 ^ lowest S)
+
+-- a set is inside another where the disks of just one of the two are as many as the other has more
+pub ⊆-size : (R S : ℕ) → T (R ⊆ S) ↔ (size R + size (R ⊕ S) ≡ size S)
+⊆-size R S = (
+  λ t. omega (arith, ap size (⊆-none R S t), size-zero, size-split R S, size-⊕ R S),
+  λ e. none-⊆ R S (size-none (R ∖ S) (omega (arith, e, size-split R S, size-⊕ R S))),
+)
 
 -- all disks below n
 pub all-⊆ : (n S : ℕ) → S < 2 ^ n → T (S ⊆ 2 ^ n - 1)

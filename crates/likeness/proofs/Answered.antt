@@ -1,21 +1,17 @@
 -- The answer on two cards, by what the check found.
 -- Assumes nothing.
-use mathlib.Core.Path.{_≡_, sym, ap, _∙_}
+use mathlib.Core.Path.{_≡_, sym, ap, ap₂, _∙_}
 use mathlib.Core.Bool.{Bool, false}
 use mathlib.Core.List.{List, [], _∷_}
-use Prim.Native.Nat.{ℕ, _+_}
+use Prim.Native.Nat.{ℕ}
 use borrow.Author.Tests.{eq-eqb, ne-eqb}
-use Rattle.flat.specs.Lists.{padded, same}
 use Rattle.flat.specs.Cards.{Code, columnBytes, codeIn}
-use Rattle.flat.specs.Erasures.{vector}
-use Rattle.flat.specs.Alike.{alike}
+use Rattle.flat.specs.Alike.{rearranged, alike}
 use Rattle.flat.specs.Faults.{Report, accepted, yesNo, withCard, alikeReport, cardReport}
 use Rattle.card.specs.declared.CardFault.{CardFault}
 use Rattle.card.specs.declared.CardCheck.the-variants.{Bad}
 use Rattle.card.specs.Reports.{faultReport, report as checkReport}
 use Rattle.card.proofs.Callers.{GoodCard, good-with, bad-card}
-use Rattle.flat.proofs.Vector.{vector-length}
-use Rattle.likeness.proofs.Comparing.{same-padded}
 
 -- the answer where both cards are good
 abbrev answer : Code → Code → Report
@@ -52,7 +48,10 @@ module _ (first second : List ℕ) (k m : ℕ) (g : GoodCard first k m) where
     unfolding alike
     parity-differs e f = rw (eq-eqb k k′ e, ne-eqb m m′ f)
 
-    pub vectors-decide : k ≡ k′ → m ≡ m′ → same (padded 17 (vector A)) (padded 17 (vector B)) ≡ alike A B
+    -- the columns were compared, as the card hands them on
+    pub columns-decide : k ≡ k′ → m ≡ m′ → (xs ys : List ℕ) → xs ≡ columnBytes first → ys ≡ columnBytes second
+        → (t : Bool) → t ≡ rearranged (codeIn k m xs) (codeIn k m ys) → t ≡ alike A B
     unfolding alike
-    vectors-decide e f =
-        same-padded 17 (vector A) (vector B) (vector-length A ∙ ap (λ (n : ℕ). n + 1) f ∙ sym (vector-length B)) ∙ rw (eq-eqb k k′ e, eq-eqb m m′ f)
+    columns-decide e f xs ys p q t h =
+        h ∙ ap₂ (λ (x y : List ℕ). rearranged (codeIn k m x) (codeIn k m y)) p q
+        ∙ ap₂ (λ (i j : ℕ). rearranged A (codeIn i j (columnBytes second))) e f ∙ rw (eq-eqb k k′ e, eq-eqb m m′ f)

@@ -1,4 +1,3 @@
-pub mod Comparing
+pub mod Counted
 pub mod Answered
 pub mod Theorems
-pub mod Impostors

@@ -1,3 +1,3 @@
 pub mod Reports
+pub mod Forms
 pub mod Theorems
-pub mod Impostors

@@ -14,6 +14,7 @@ use Rattle.gf2.specs.If.{if_then_else_}
 use Rattle.gf2.specs.Sets.{size}
 use Rattle.gf2.proofs.Tests.{dec, T-ext, and-in, and-out, eqb-out, below-or}
 use Rattle.flat.specs.Lists.{range, filter, each, orderedBy}
+use Rattle.flat.proofs.Lists.{entry-map}
 use Rattle.flat.proofs.Members.{filter-out}
 use Rattle.flat.proofs.Filters.{filter-nil, filter-yes, filter-not, filter-none, filter-cong, filter-both}
 use Rattle.stepped_codes.specs.Stepped.{sizeOk, paritySets, paritySet, choose}
@@ -31,12 +32,6 @@ module _ (xs ys : List ℕ) (n i : ℕ) (long : length xs ≡ n) where
   in-second l =
       let e : i ≡ length xs + (i - n) = omega arith in
       ap (λ (j : ℕ). getD (xs ++ ys) j 0) e ∙ getD-append-add xs ys (i - n) 0
-
--- and of a mapped list
-entry-map : (f : ℕ → ℕ) (xs : List ℕ) (i : ℕ) → i < length xs → getD (map f xs) i 0 ≡ f (getD xs i 0)
-entry-map f [] i l = absurd (omega arith)
-entry-map f (x ∷ xs) zero l = refl
-entry-map f (x ∷ xs) (suc i) l = entry-map f xs i (omega arith)
 
 -- ---- of one size
 

@@ -1,17 +1,16 @@
 -- `likeness::alike` meets its contract. Assumes nothing.
-use mathlib.Core.Path.{_≡_, sym, ap, ap₂, _∙_}
+use mathlib.Core.Path.{_≡_, sym, ap, _∙_}
 use mathlib.Core.Bool.{true, false}
-use mathlib.Core.List.{List}
 use Prim.Native.Nat.{ℕ}
+use native.Mathlib.Omega.{arith}
 use denote.Ref.{now}
-use Rattle.flat.specs.Lists.{same, padded}
+use lib.ListN.{length}
 use Rattle.flat.specs.Cards.{columnBytes, codeIn}
-use Rattle.flat.specs.Erasures.{vector}
 use Rattle.flat.specs.Alike.{alike}
 use Rattle.flat.specs.Faults.{yesNo}
 use Rattle.card.specs.Reports.{report as checkReport}
 use Rattle.card.proofs.Callers.{GoodCard, good}
-use Rattle.likeness.proofs.Answered.{alike-first, alike-second, alike-both, data-differs, parity-differs, vectors-decide}
+use Rattle.likeness.proofs.Answered.{alike-first, alike-second, alike-both, data-differs, parity-differs, columns-decide}
 use borrow.Author.Needs.{needs}
 use Rattle.likeness.proofs.alike.Statement.{statement}
 use Rattle.likeness.proofs.alike.Tie as tie
@@ -76,42 +75,31 @@ returns-2 c =
 columns-requires : tie.Need-columns-requires
 columns-requires c κs = known (prior (c .before .before)) .long
 
-count-columns-requires : tie.Need-count-columns-requires
-count-columns-requires c κs = rw (c .columns .ensures) (known (prior (c .before .before .before)) .columns)
-
 columns-requires-2 : tie.Need-columns-requires-2
-columns-requires-2 c κs = known2 (c .before .before .before .before) .long
+columns-requires-2 c κs = known2 (c .before .before .before) .long
 
--- the second card is one of the first's counts
-count-columns-requires-2 : tie.Need-count-columns-requires-2
-count-columns-requires-2 c κs =
-    let e = c .before .before .before in
-    rw (c .columns2 .ensures, e .before .if1 .left, e .if2 .left) (known2 (e .before .before) .columns)
+-- the second card has as many columns as the first
+rearranged-requires : tie.Need-rearranged-requires
+rearranged-requires c κs =
+    let e = c .before .before in
+    let f = known (prior (e .before .before)) .columns in
+    let g = known2 (e .before .before) .columns in
+    (f .3, ap length (c .before .columns .ensures) ∙ f .4, ap length (c .columns2 .ensures) ∙ omega (arith, g .4, e .if2 .left))
 
-equal-requires : tie.Need-equal-requires
-equal-requires c κs = search needs
+-- the columns were compared
+abbrev both : tie.After-rearranged → tie.Else2
+both c = c .before .before .before
 
--- the two vectors were compared
-abbrev both : tie.After-equal → tie.Else2
-both c = c .before .before .before .before .before
-
-decided : (c : tie.After-equal)
+decided : (c : tie.After-rearranged)
     → let b = both c .before .before in
     let p = prior b in
-    c .equal .result
+    c .rearranged .result
     ≡ alike (codeIn (kAt p) (mAt p) (columnBytes (now (start p .args .first))))
     (codeIn (dataAt b) (parityAt b) (columnBytes (now (start p .args .second))))
 decided c =
     let b = both c .before .before in
-    let p = prior b in
-    let a = c .before .before .before in
-    let k = both c .before .if1 .left in
-    let m = both c .if2 .left in
-    let vectorOf : ℕ → ℕ → List ℕ → List ℕ = λ i j bytes. padded 17 (vector (codeIn i j bytes)) in
-    let x = a .count-columns .ensures ∙ ap (vectorOf (kAt p) (mAt p)) (a .before .columns .ensures) in
-    let y = c .before .count-columns2 .ensures ∙ ap (vectorOf (kAt p) (mAt p)) (c .before .before .columns2 .ensures)
-    ∙ ap₂ (λ (i j : ℕ). vectorOf i j (columnBytes (now (start p .args .second)))) k m in
-    c .equal .ensures ∙ ap₂ same x y ∙ vectors-decide _ _ _ _ (known p) _ _ (known2 b) k m
+    columns-decide _ _ _ _ (known (prior b)) _ _ (known2 b) (both c .before .if1 .left) (both c .if2 .left) _ _ (c .before .before .columns .ensures)
+    (c .before .columns2 .ensures) _ (c .rearranged .ensures _)
 
 returns-3 : tie.Need-returns-3
 unfolding yesNo
@@ -147,10 +135,8 @@ alike-spec =
     returns
     returns-2
     columns-requires
-    count-columns-requires
     columns-requires-2
-    count-columns-requires-2
-    equal-requires
+    rearranged-requires
     returns-3
     returns-4
     returns-5
