@@ -128,7 +128,7 @@ pub fn columns(card: &[u8]) -> &[u8]
 }
 
 // The m columns out of their bytes, then zeros.
-pub fn columns_of(m: usize, columns: &[u8]) -> [u16; 16]
+fn columns_of(m: usize, columns: &[u8]) -> [u16; 16]
     requires { ⌜ (m ≤ 16) × (2 * m ≤ length (now columns)) ⌝ }
     ensures { λ r. ⌜ r ≡ padded 16 (columnsIn m (now (columns .entry))) ⌝ }
 {

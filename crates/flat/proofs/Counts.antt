@@ -33,12 +33,6 @@ unfolding count
 count-more i p t =
     let w : _≡_ {A = ℕ} (if p i then 1 else 0) 1 = if-true (p i) 1 0 t in omega arith
 
--- and adds nothing where it has not
-pub count-same : (i : ℕ) (p : ℕ → Bool) → (T (p i) → ⊥) → count (suc i) p ≡ count i p
-unfolding count
-count-same i p f =
-    let w : _≡_ {A = ℕ} (if p i then 1 else 0) 0 = if-false (p i) 1 0 f in omega arith
-
 -- a larger bound has as many at least
 pub count-grows : (p : ℕ → Bool) (i n : ℕ) → i ≤ n → count i p ≤ count n p
 unfolding count

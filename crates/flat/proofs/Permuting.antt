@@ -30,7 +30,9 @@ module _ (p q : ℕ) where
 
   pub swap-second : swapped p q q ≡ p
   unfolding swapped
-  swap-second = ⊎-elim (λ t. if-true (eqb q p) q (if eqb q q then p else q) t ∙ eqb-out q p t) (λ f. if-false (eqb q p) q (if eqb q q then p else q) f ∙ if-true (eqb q q) p q (eqb-in {a = q} refl)) (dec (eqb q p))
+  swap-second =
+      ⊎-elim (λ t. if-true (eqb q p) q (if eqb q q then p else q) t ∙ eqb-out q p t)
+      (λ f. if-false (eqb q p) q (if eqb q q then p else q) f ∙ if-true (eqb q q) p q (eqb-in {a = q} refl)) (dec (eqb q p))
 
   pub swap-other : (i : ℕ) → i ≢ p → i ≢ q → swapped p q i ≡ i
   unfolding swapped
@@ -39,7 +41,9 @@ module _ (p q : ℕ) where
 
   -- a number is one of the two, or stays
   swap-cases : (i : ℕ) → ((i ≡ p) ⊎ (i ≡ q)) ⊎ (swapped p q i ≡ i)
-  swap-cases i = ⊎-elim (λ t. inl (inl (eqb-out i p t))) (λ f. ⊎-elim (λ t. inl (inr (eqb-out i q t))) (λ g. inr (swap-other i (λ e. f (eqb-in e)) (λ e. g (eqb-in e)))) (dec (eqb i q))) (dec (eqb i p))
+  swap-cases i =
+      ⊎-elim (λ t. inl (inl (eqb-out i p t)))
+      (λ f. ⊎-elim (λ t. inl (inr (eqb-out i q t))) (λ g. inr (swap-other i (λ e. f (eqb-in e)) (λ e. g (eqb-in e)))) (dec (eqb i q))) (dec (eqb i p))
 
   pub swap-back : (i : ℕ) → swapped p q (swapped p q i) ≡ i
   swap-back i = go (swap-cases i)

@@ -1,98 +1,102 @@
--- The columns of two cards in 16 places each: counted there, they tell whether the one's are a rearrangement of the other's.
+-- Columns counted in their bytes tell whether those of two cards are a rearrangement of each other.
 -- Assumes nothing.
-use mathlib.Core.Path.{_≡_, refl, sym, ap, _∙_}
-use mathlib.Core.Bool.{Bool, false}
+use mathlib.Core.Path.{_≡_, refl, sym, ap, ap₂, _∙_}
+use mathlib.Core.Bool.{Bool, true, false}
 use mathlib.Core.List.{List}
-use Prim.Native.Nat.{ℕ, _+_, _-_, _≤_, _<_}
+use Prim.Native.Nat.{ℕ, _+_, _-_, _*_, _≤_, _<_}
 use native.Mathlib.Numerals.{add-one}
 use native.Mathlib.Omega.{arith}
 use lib.Dec.{T, eqb}
-use lib.ListN.{getD, List·getD-eq-default}
-use Rattle.gf2.proofs.Tests.{T-false, T-ext, and-in, eqb-in, eqb-out}
-use Rattle.flat.specs.Lists.{every, count, padded}
-use Rattle.flat.specs.Cards.{Code, codeIn, column, columnsIn}
+use Rattle.gf2.proofs.Tests.{true-T, false-T, T-false, T-ext, and-in, eqb-in, eqb-out}
+use Rattle.flat.specs.Lists.{every, count, field}
+use Rattle.flat.specs.Cards.{Code, codeIn, column}
 use Rattle.flat.specs.Alike.{occurrences, asOften, rearranged}
-use Rattle.flat.proofs.Lists.{getD-padded}
-use Rattle.flat.proofs.Cards.{length-columns}
+use Rattle.flat.specs.Faults.{yesNo}
+use Rattle.flat.proofs.Cards.{column-at}
 use Rattle.flat.proofs.Quantifiers.{every-cong, every-out}
-use Rattle.flat.proofs.Counts.{count-more, count-same, count-cong, count-append}
-use Rattle.likeness.specs.Forms.{held, heldAsOften}
+use Rattle.flat.proofs.Counts.{count-cong, count-le}
 use Rattle.renumbering.proofs.Alike.{one-side-enough}
+use Rattle.likeness.specs.Forms.{standing, standAsOften}
 
--- ---- the places gone through
+-- ---- the balance: up for each of the one's columns that is c, and down for each of the other's
 
-pub held-none : (xs : List ℕ) (c : ℕ) → 0 ≡ held 0 xs c
-unfolding held count
-held-none xs c = refl
+-- after i columns of both
+abbrev pub Balance : List ℕ → List ℕ → ℕ → ℕ → ℕ → Type 0
+Balance own other c i balance = balance + standing i other c ≡ 16 + standing i own c
 
-module _ (xs : List ℕ) (c i n n′ x : ℕ) (h : n ≡ held i xs c) (e : x ≡ getD xs i 0) where
-  pub held-more : x ≡ c → n′ ≡ n + 1 → n′ ≡ held (i + 1) xs c
-  unfolding held
-  held-more f g = rw (add-one i) (omega (arith, h, count-more i (λ j. eqb (getD xs j 0) c) (eqb-in (sym e ∙ f))))
+pub balance-none : (own other : List ℕ) (c : ℕ) → Balance own other c 0 16
+unfolding standing count
+balance-none own other c = refl
 
-  pub held-still : (x ≡ c → ⊥) → n′ ≡ n → n′ ≡ held (i + 1) xs c
-  unfolding held
-  held-still f g = rw (add-one i) (omega (arith, h, count-same i (λ j. eqb (getD xs j 0) c) (λ t. f (e ∙ eqb-out (getD xs i 0) c t))))
+one-more : (bs : List ℕ) (c i x : ℕ) → x ≡ field (2 * i) 2 bs → standing (i + 1) bs c ≡ standing i bs c + yesNo (eqb x c)
+unfolding standing count yesNo
+one-more bs c i x e = rw (add-one i, e)
 
--- ---- the places compared
+pub one-most : (u : Bool) (a : ℕ) → a ≡ yesNo u → a ≤ 1
+unfolding yesNo
+one-most true a e = omega arith
+one-most false a e = omega arith
 
-pub often-none : (own other : List ℕ) → T (heldAsOften 0 own other)
-unfolding heldAsOften every
-often-none own other = tt
+module _ (own other : List ℕ) (c i balance : ℕ) (h : Balance own other c i balance) (l : i < 16) where
+  pub balance-within : (1 ≤ balance) × (balance ≤ 31)
+  unfolding standing
+  balance-within =
+      let p = count-le i (λ j. eqb (field (2 * j) 2 own) c) in
+      let q = count-le i (λ j. eqb (field (2 * j) 2 other) c) in
+      (omega arith, omega arith)
 
--- the counts a and b of what stands in place j
-module _ (own other : List ℕ) (j c a b : ℕ) (e : c ≡ getD own j 0) (f : a ≡ held 16 own c) (g : b ≡ held 16 other c) where
+  pub balance-more : (x y a b n : ℕ) → x ≡ field (2 * i) 2 own → y ≡ field (2 * i) 2 other → a ≡ yesNo (eqb x c)
+      → b ≡ yesNo (eqb y c) → n ≡ balance + a - b → Balance own other c (i + 1) n
+  balance-more x y a b n e f p q r =
+      omega (arith, one-more own c i x e, one-more other c i y f, one-most (eqb y c) b q, balance-within .0)
+
+-- it is where it began exactly where both have as many
+pub balance-end : (own other : List ℕ) (c m balance : ℕ) → Balance own other c m balance → eqb balance 16 ≡ eqb (standing m own c) (standing m other c)
+balance-end own other c m balance h =
+    T-ext (λ t. eqb-in {a = standing m own c} (omega (arith, eqb-out balance 16 t)))
+    (λ t. eqb-in {a = balance} (omega (arith, eqb-out (standing m own c) (standing m other c) t)))
+
+-- ---- the columns gone through
+
+pub often-none : (m : ℕ) (own other : List ℕ) → T (standAsOften 0 m own other)
+unfolding standAsOften every
+often-none m own other = tt
+
+-- what was found of column j
+module _ (m : ℕ) (own other : List ℕ) (j c : ℕ) (e : c ≡ field (2 * j) 2 own) (t : Bool) (h : t ≡ eqb (standing m own c) (standing m other c)) where
   abbrev same : ℕ → Bool
-  same i = eqb (held 16 own (getD own i 0)) (held 16 other (getD own i 0))
+  same i = eqb (standing m own (field (2 * i) 2 own)) (standing m other (field (2 * i) 2 own))
 
-  counts : (a ≡ held 16 own (getD own j 0)) × (b ≡ held 16 other (getD own j 0))
-  counts = (f ∙ ap (held 16 own) e, g ∙ ap (held 16 other) e)
+  found : same j ≡ t
+  found = ap (λ (x : ℕ). eqb (standing m own x) (standing m other x)) (sym e) ∙ sym h
 
-  pub often-more : T (heldAsOften j own other) → a ≡ b → T (heldAsOften (j + 1) own other)
-  unfolding heldAsOften every
-  often-more t h = rw (add-one j) (and-in (every j same) (same j) t (eqb-in (sym (counts .0) ∙ h ∙ counts .1)))
+  pub often-more : T (standAsOften j m own other) → t ≡ true → T (standAsOften (j + 1) m own other)
+  unfolding standAsOften every
+  often-more a f = rw (add-one j) (and-in (every j same) (same j) a (true-T (found ∙ f)))
 
-  pub often-fails : (m : ℕ) → j < m → (a ≡ b → ⊥) → false ≡ heldAsOften m own other
-  unfolding heldAsOften
-  often-fails m l h =
-      sym (T-false (λ t. h (counts .0 ∙ eqb-out _ _ (every-out m same t j l) ∙ sym (counts .1))))
+  pub often-fails : (n : ℕ) → j < n → t ≡ false → false ≡ standAsOften n m own other
+  unfolding standAsOften
+  often-fails n l f = sym (T-false (λ a. false-T (found ∙ f) (every-out n same a j l)))
 
--- ---- 16 places, and the columns in the first m of them
+-- ---- codes
 
--- past the columns there is 0, in as many places for each card with m of them
-held-columns : (k m : ℕ) (bs : List ℕ) (c : ℕ) → m ≤ 16
-    → held 16 (padded 16 (columnsIn m bs)) c ≡ occurrences (codeIn k m bs) c + count (16 - m) (λ i. eqb 0 c)
-unfolding held occurrences column
-held-columns k m bs c l =
-    let e : 16 ≡ m + (16 - m) = omega arith in
-    count-cong 16 (λ i. eqb (getD (padded 16 (columnsIn m bs)) i 0) c) p (λ i _. ap (λ (x : ℕ). eqb x c) (getD-padded 16 i (columnsIn m bs)))
-    ∙ ap (λ (n : ℕ). count n p) e ∙ count-append m (16 - m) p
-    ∙ ap (λ (n : ℕ). count m p + n) (count-cong (16 - m) (λ i. p (m + i)) (λ i. eqb 0 c)
-    (λ i _. ap (λ (x : ℕ). eqb x c) (List·getD-eq-default (columnsIn m bs) 0 (omega (arith, length-columns m bs)))))
+-- of a code whose columns stand in these bytes
+occurrences-in : (k m : ℕ) (bs : List ℕ) (c : ℕ) → standing m bs c ≡ occurrences (codeIn k m bs) c
+unfolding standing occurrences column
+occurrences-in k m bs c =
+    count-cong m (λ j. eqb (field (2 * j) 2 bs) c) (λ j. eqb (column (codeIn k m bs) j) c) (λ j l. ap (λ (x : ℕ). eqb x c) (sym (column-at m bs j l)))
+
+pub stand-rearranged : (k m : ℕ) (bs cs : List ℕ) → standAsOften m m bs cs ≡ rearranged (codeIn k m bs) (codeIn k m cs)
+unfolding standAsOften asOften column
+stand-rearranged k m bs cs =
+    every-cong m (λ j. eqb (standing m bs (field (2 * j) 2 bs)) (standing m cs (field (2 * j) 2 bs)))
+    (λ j. eqb (occurrences A (column A j)) (occurrences B (column A j)))
+    (λ j l. ap (λ (c : ℕ). eqb (standing m bs c) (standing m cs c)) (sym (column-at m bs j l))
+    ∙ ap₂ eqb (occurrences-in k m bs (column A j)) (occurrences-in k m cs (column A j)))
+    ∙ one-side-enough A B refl
   where
-    p : ℕ → Bool
-    p i = eqb (getD (columnsIn m bs) i 0) c
+    A : Code
+    A = codeIn k m bs
 
-module _ (k m : ℕ) (bs cs : List ℕ) (l : m ≤ 16) where
-  abbrev A : Code
-  A = codeIn k m bs
-
-  abbrev B : Code
-  B = codeIn k m cs
-
-  held-same : (c : ℕ) → eqb (held 16 (padded 16 (columnsIn m bs)) c) (held 16 (padded 16 (columnsIn m cs)) c) ≡ eqb (occurrences A c) (occurrences B c)
-  held-same c = beside _ _ _ _ (count (16 - m) (λ i. eqb 0 c)) (held-columns k m bs c l) (held-columns k m cs c l)
-    where
-      beside : (x y a b z : ℕ) → x ≡ a + z → y ≡ b + z → eqb x y ≡ eqb a b
-      beside x y a b z e f =
-          T-ext (λ t. eqb-in {a = a} {b = b} (omega (arith, eqb-out x y t))) (λ t. eqb-in {a = x} {b = y} (omega (arith, eqb-out a b t)))
-
-  pub held-rearranged : heldAsOften m (padded 16 (columnsIn m bs)) (padded 16 (columnsIn m cs)) ≡ rearranged A B
-  unfolding heldAsOften asOften column
-  held-rearranged =
-      every-cong m
-      (λ j. eqb (held 16 (padded 16 (columnsIn m bs)) (getD (padded 16 (columnsIn m bs)) j 0)) (held 16 (padded 16 (columnsIn m cs)) (getD (padded 16 (columnsIn m bs)) j 0)))
-      (λ j. eqb (occurrences A (column A j)) (occurrences B (column A j)))
-      (λ j _. held-same (getD (padded 16 (columnsIn m bs)) j 0)
-      ∙ ap (λ (c : ℕ). eqb (occurrences A c) (occurrences B c)) (getD-padded 16 j (columnsIn m bs)))
-      ∙ one-side-enough A B refl
+    B : Code
+    B = codeIn k m cs

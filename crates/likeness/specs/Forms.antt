@@ -2,17 +2,16 @@
 -- Assumes nothing.
 use mathlib.Core.Bool.{Bool}
 use mathlib.Core.List.{List}
-use Prim.Native.Nat.{ℕ}
+use Prim.Native.Nat.{ℕ, _*_}
 use lib.Dec.{eqb}
-use lib.ListN.{getD}
-use Rattle.flat.specs.Lists.{every, count}
+use Rattle.flat.specs.Lists.{every, count, field}
 
--- how many of the first n places hold c
-unfoldable pub held : ℕ → List ℕ → ℕ → ℕ
-unfolding count
-held n columns c = count n (λ i. eqb (getD columns i 0) c)
+-- how many of the first n columns that stand in bytes are c
+unfoldable pub standing : ℕ → List ℕ → ℕ → ℕ
+unfolding count field
+standing n bs c = count n (λ j. eqb (field (2 * j) 2 bs) c)
 
--- is what each of the first m places holds held in as many of the other's 16 places as of its own?
-unfoldable pub heldAsOften : ℕ → List ℕ → List ℕ → Bool
-unfolding every held
-heldAsOften m own other = every m (λ j. eqb (held 16 own (getD own j 0)) (held 16 other (getD own j 0)))
+-- does each of the first n columns stand as often among the m of the other card as among the m of its own?
+unfoldable pub standAsOften : ℕ → ℕ → List ℕ → List ℕ → Bool
+unfolding every standing
+standAsOften n m own other = every n (λ j. eqb (standing m own (field (2 * j) 2 own)) (standing m other (field (2 * j) 2 own)))

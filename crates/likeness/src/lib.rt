@@ -5,12 +5,13 @@
 // is answered for which input in flat/specs/Faults.antt.
 ghost use mathlib.Core.Path.{_≡_};
 ghost use Prim.Native.Nat.{ℕ, _*_, _≤_};
+ghost use lib.Dec.{eqb};
 ghost use lib.ListN.{length};
 ghost use Rattle.flat.specs.Cards.{codeIn};
 ghost use Rattle.flat.specs.Alike.{rearranged};
-ghost use Rattle.flat.specs.Faults.{alikeReport};
+ghost use Rattle.flat.specs.Faults.{yesNo, alikeReport};
 ghost use Rattle.likeness.specs.Reports.{report};
-ghost use Rattle.likeness.specs.Forms.{held, heldAsOften};
+ghost use Rattle.likeness.specs.Forms.{standing};
 use card::CardCheck;
 use card::CardFault;
 
@@ -21,44 +22,42 @@ pub enum Likeness {
     Card(CardFault),
 }
 
-// How many of the 16 places hold c. The count is as wide as a column, so that the compiler compares and
-// counts eight places at once.
-fn occurrences(columns: &[u16; 16], c: u16) -> u16
-    requires { ⌜ length (now columns) ≡ 16 ⌝ }
-    ensures { λ r. ⌜ r ≡ held 16 (now (columns .entry)) c ⌝ }
+// 1 where two columns are equal, else 0.
+fn equal(a: u16, b: u16) -> u16
+    ensures { λ r. ⌜ r ≡ yesNo (eqb a b) ⌝ }
 {
-    let mut n = 0u16;
-    for i in 0..16 {
-        if columns[i] == c {
-            n += 1;
-        }
+    if a == b {
+        return 1;
     }
-    n
+    0
 }
 
-// Whether what stands in each of the first m places stands in as many of the other's places.
-fn as_often(own: &[u16; 16], other: &[u16; 16], m: usize) -> bool
-    requires { ⌜ (length (now own) ≡ 16) × (length (now other) ≡ 16) × (m ≤ 16) ⌝ }
-    ensures { λ r. ⌜ r ≡ heldAsOften m (now (own .entry)) (now (other .entry)) ⌝ }
+// Whether c stands as often among the m columns of the one card as among those of the other. One number goes up
+// for each of the one's and down for each of the other's; it is as wide as a column, so that the compiler
+// compares and counts eight of each at once.
+fn as_often(own: &[u8], other: &[u8], m: usize, c: u16) -> bool
+    requires { ⌜ (m ≤ 16) × (length (now own) ≡ 2 * m) × (length (now other) ≡ 2 * m) ⌝ }
+    ensures { λ r. ⌜ r ≡ eqb (standing m (now (own .entry)) c) (standing m (now (other .entry)) c) ⌝ }
 {
-    for j in 0..m {
-        let c = own[j];
-        if occurrences(own, c) != occurrences(other, c) {
-            return false;
-        }
+    let mut balance = 16u16;
+    for i in 0..m {
+        balance = balance + equal(card::column(own, i), c) - equal(card::column(other, i), c);
     }
-    true
+    balance == 16
 }
 
 // Whether the m columns of two cards are a rearrangement of each other. With as many in both, it is enough
-// to look at those of the first; the places past them hold 0 in both.
+// to look at those of the first.
 fn rearranged(first: &[u8], second: &[u8], m: usize) -> bool
     requires { ⌜ (m ≤ 16) × (length (now first) ≡ 2 * m) × (length (now second) ≡ 2 * m) ⌝ }
     ensures { λ r. ⌜ ((k : ℕ) → r ≡ rearranged (codeIn k m (now (first .entry))) (codeIn k m (now (second .entry)))) ⌝ }
 {
-    let own = card::columns_of(m, first);
-    let other = card::columns_of(m, second);
-    as_often(&own, &other, m)
+    for j in 0..m {
+        if !as_often(first, second, m, card::column(first, j)) {
+            return false;
+        }
+    }
+    true
 }
 
 // Whether two cards are alike. The first card's refusals come before the second's.

@@ -61,8 +61,8 @@ module _ (first second : List ℕ) (k m : ℕ) (p : cardReport first ≡ accepte
         ∙ counted first (length slice) count a
 
     -- an entry that is written is the list's
-    written : (card kept : List ℕ) (c : ℕ) → cardReport card ≡ accepted (k ∷ m ∷ []) → erasuresReport card (length kept) ≡ accepted (c ∷ []) → (e : ℕ) → e < c
-        → getD (erasuresSlice card kept) e 0 ≡ getD (erasures (codeOf card)) e 0
+    written : (card kept : List ℕ) (c : ℕ) → cardReport card ≡ accepted (k ∷ m ∷ []) → erasuresReport card (length kept) ≡ accepted (c ∷ [])
+        → (e : ℕ) → e < c → getD (erasuresSlice card kept) e 0 ≡ getD (erasures (codeOf card)) e 0
     written card kept c ok f e l = sym (getD-take c (erasuresSlice card kept) e 0 l) ∙ ap (λ (xs : List ℕ). getD xs e 0) (erasures-written card k m ok kept c f)
 
     matches : (e : ℕ) → e < count → getD (erasuresSlice second other) e 0 ≡ renumbered A π (getD (erasuresSlice first slice) e 0)

@@ -48,7 +48,7 @@ module _ (k m : ℕ) (us vs : List ℕ) (π : ℕ → ℕ) (r : Renumbering (cod
 
   to-parity : (d j : ℕ) → d ≡ k + j → to d ≡ k + π j
   unfolding to place
-  to-parity d j e = let f : d - k ≡ j = omega arith in rw (le-ltb d k (omega arith), f)
+  to-parity d j e = let f : d - k ≡ j = omega arith in rw (le-ltb d k (omega arith), f) (omega arith)
 
   pub to-permutes : Permutes (disks A) (place A π)
   unfolding disks to

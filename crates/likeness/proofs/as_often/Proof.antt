@@ -1,62 +1,65 @@
--- `likeness::as_often` meets its contract: what the places gone through hold stands as often in both.
+-- `likeness::as_often` meets its contract: the columns gone through are balanced against each other.
 -- Assumes nothing.
-use mathlib.Core.Path.{_≡_, refl, sym, subst}
+use mathlib.Core.Path.{_≡_, subst}
 use Prim.Native.Nat.{ℕ, _-_, _≤_}
 use native.Mathlib.Omega.{arith}
 use borrow.Author.Needs.{needs}
 use denote.Ref.{now}
-use lib.Dec.{T}
-use Rattle.gf2.proofs.Tests.{T-true}
-use Rattle.likeness.specs.Forms.{heldAsOften}
-use Rattle.likeness.proofs.Counted.{often-none, often-more, often-fails}
+use Rattle.likeness.proofs.Counted.{Balance, balance-none, balance-within, balance-more, balance-end, one-most}
 use Rattle.likeness.proofs.as_often.Statement.{statement}
 use Rattle.likeness.proofs.as_often.Tie as tie
 
 abbrev Inv-loop : tie.InvT-loop
-Inv-loop own other m j₀ j = (j ≤ m) × T (heldAsOften j own other)
+Inv-loop own other m c balance₀ i₀ balance i = (i ≤ m) × Balance own other c i balance
 
 abbrev μ-loop : tie.MeasureT-loop
-μ-loop own other m j₀ j = m - j
+μ-loop own other m c balance₀ i₀ balance i = m - i
 
 loop-holds : tie.Need-loop-holds Inv-loop μ-loop
-loop-holds c = (omega arith, often-none _ _)
+loop-holds c = (omega arith, balance-none _ _ _)
 
-mul-c : tie.Need-mul-c Inv-loop μ-loop
-mul-c c = search needs
+column-requires : tie.Need-column-requires Inv-loop μ-loop
+column-requires c κs = search needs
 
-element-copy-out-c : tie.Need-element-copy-out-c Inv-loop μ-loop
-element-copy-out-c c = search needs
+equal-requires : tie.Need-equal-requires Inv-loop μ-loop
+equal-requires c κs = search needs
 
-occurrences-requires : tie.Need-occurrences-requires Inv-loop μ-loop
-occurrences-requires c κs = search needs
+add-balance : tie.Need-add-balance Inv-loop μ-loop
+add-balance c =
+    let l = c .before .before .before .loop in
+    omega (arith, balance-within _ _ _ _ _ (l .inv .1) (omega arith) .1, one-most _ _ (c .equal .ensures))
 
-occurrences-requires-2 : tie.Need-occurrences-requires-2 Inv-loop μ-loop
-occurrences-requires-2 c κs = search needs
+column-requires-2 : tie.Need-column-requires-2 Inv-loop μ-loop
+column-requires-2 c κs = search needs
 
-returns : tie.Need-returns Inv-loop μ-loop
-returns c =
+equal-requires-2 : tie.Need-equal-requires-2 Inv-loop μ-loop
+equal-requires-2 c κs = search needs
+
+sub-balance : tie.Need-sub-balance Inv-loop μ-loop
+sub-balance c =
     let l = c .before .before .before .before .before .loop in
-    let v = c .before in
-    often-fails _ _ (l .j) _ _ _ refl (v .before .occurrences .ensures) (v .occurrences2 .ensures) _ (omega arith) (λ e. omega arith)
+    omega (arith, balance-within _ _ _ _ _ (l .inv .1) (omega arith) .0, one-most _ _ (c .equal2 .ensures))
 
-add-j : tie.Need-add-j Inv-loop μ-loop
-add-j c = search needs
+add-i : tie.Need-add-i Inv-loop μ-loop
+add-i c = search needs
 
 loop-less : tie.Need-loop-less Inv-loop μ-loop
 loop-less c = search needs
 
 loop-again : tie.Need-loop-again Inv-loop μ-loop
 loop-again c =
-    let l = c .before .before .before .before .before .loop in
-    let v = c .before in
-    (omega arith, often-more _ _ (l .j) _ _ _ refl (v .before .occurrences .ensures) (v .occurrences2 .ensures) (l .inv .1) (omega arith))
+    let l = c .before .before .before .before .before .loop in (
+      omega arith,
+      balance-more _ _ _ _ _ (l .inv .1) (omega arith) _ _ _ _ _ (c .before .before .before .column .ensures) (c .before .column2 .ensures)
+          (c .before .before .equal .ensures) (c .equal2 .ensures) (omega arith),
+    )
 
-returns-2 : tie.Need-returns-2 Inv-loop μ-loop
-returns-2 c =
+returns : tie.Need-returns Inv-loop μ-loop
+returns c =
     let l = c .before .loop in
-    let a = c .before .before .args in
-    let e : l .j ≡ a .m = omega arith in
-    sym (T-true (subst (λ (j : ℕ). T (heldAsOften j (now (a .own)) (now (a .other)))) e (l .inv .1)))
+    let a = c .before .before .before .before .args in
+    let e : l .i ≡ a .m = omega arith in
+    balance-end _ _ _ _ _ (subst (λ (i : ℕ). Balance (now (a .own)) (now (a .other)) (a .c) i (l .balance)) e (l .inv .1))
 
 pub as-often-spec : {M : Type 1} → statement M
 as-often-spec =
@@ -65,12 +68,13 @@ as-often-spec =
     Inv-loop
     μ-loop
     loop-holds
-    mul-c
-    element-copy-out-c
-    occurrences-requires
-    occurrences-requires-2
-    returns
-    add-j
+    column-requires
+    equal-requires
+    add-balance
+    column-requires-2
+    equal-requires-2
+    sub-balance
+    add-i
     loop-less
     loop-again
-    returns-2)
+    returns)

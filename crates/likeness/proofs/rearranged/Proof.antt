@@ -1,26 +1,68 @@
--- `likeness::rearranged` meets its contract. Assumes nothing.
-use mathlib.Core.Path.{ap₂, _∙_}
+-- `likeness::rearranged` meets its contract: each of the columns gone through stands as often in both.
+-- Assumes nothing.
+use mathlib.Core.Path.{_≡_, sym, _∙_, subst}
+use Prim.Native.Nat.{ℕ, _-_, _≤_}
 use native.Mathlib.Omega.{arith}
 use borrow.Author.Needs.{needs}
-use Rattle.likeness.specs.Forms.{heldAsOften}
-use Rattle.likeness.proofs.Counted.{held-rearranged}
+use borrow.Author.Tests.{not-true, not-false}
+use denote.Ref.{now}
+use lib.Dec.{T}
+use Rattle.gf2.proofs.Tests.{T-true}
+use Rattle.likeness.specs.Forms.{standAsOften}
+use Rattle.likeness.proofs.Counted.{often-none, often-more, often-fails, stand-rearranged}
 use Rattle.likeness.proofs.rearranged.Statement.{statement}
 use Rattle.likeness.proofs.rearranged.Tie as tie
 
-columns-of-requires : tie.Need-columns-of-requires
-columns-of-requires c κs = search needs
+abbrev Inv-loop : tie.InvT-loop
+Inv-loop first second m j₀ j = (j ≤ m) × T (standAsOften j m first second)
 
-columns-of-requires-2 : tie.Need-columns-of-requires-2
-columns-of-requires-2 c κs = search needs
+abbrev μ-loop : tie.MeasureT-loop
+μ-loop first second m j₀ j = m - j
 
-as-often-requires : tie.Need-as-often-requires
+loop-holds : tie.Need-loop-holds Inv-loop μ-loop
+loop-holds c = (omega arith, often-none _ _ _)
+
+column-requires : tie.Need-column-requires Inv-loop μ-loop
+column-requires c κs = search needs
+
+as-often-requires : tie.Need-as-often-requires Inv-loop μ-loop
 as-often-requires c κs = search needs
 
-returns : tie.Need-returns
+returns : tie.Need-returns Inv-loop μ-loop
 returns c k =
-    let b = c .before .before .before in
-    c .as-often .ensures ∙ ap₂ (heldAsOften _) (b .before .columns-of .ensures) (b .columns-of2 .ensures) ∙ held-rearranged k _ _ _ (omega arith)
+    let v = c .before in
+    often-fails _ _ _ _ _ (v .before .column .ensures) _ (v .as-often .ensures) _ (omega arith) (not-true _ (c .if1 .taken)) ∙ stand-rearranged k _ _ _
+
+add-j : tie.Need-add-j Inv-loop μ-loop
+add-j c = search needs
+
+loop-less : tie.Need-loop-less Inv-loop μ-loop
+loop-less c = search needs
+
+loop-again : tie.Need-loop-again Inv-loop μ-loop
+loop-again c =
+    let v = c .before in
+    let l = v .before .before .before .loop in
+    (omega arith, often-more _ _ _ _ _ (v .before .column .ensures) _ (v .as-often .ensures) (l .inv .1) (not-false _ (c .if1 .left)))
+
+returns-2 : tie.Need-returns-2 Inv-loop μ-loop
+returns-2 c k =
+    let l = c .before .loop in
+    let a = c .before .before .before .before .args in
+    let e : l .j ≡ a .m = omega arith in
+    sym (T-true (subst (λ (j : ℕ). T (standAsOften j (a .m) (now (a .first)) (now (a .second)))) e (l .inv .1))) ∙ stand-rearranged k _ _ _
 
 pub rearranged-spec : {M : Type 1} → statement M
 rearranged-spec =
-    tie.close (tie.spec columns-of-requires columns-of-requires-2 as-often-requires returns)
+    tie.close
+    (tie.spec
+    Inv-loop
+    μ-loop
+    loop-holds
+    column-requires
+    as-often-requires
+    returns
+    add-j
+    loop-less
+    loop-again
+    returns-2)
