@@ -9,6 +9,7 @@ int main(void)
     bench_trays();
     bench_updates();
     bench_cards();
+    bench_likeness();
     bench_records();
     return 0;
 }

@@ -1,4 +1,4 @@
-/* What the benchmarks share, and the seven that bench.c runs one after the other. */
+/* What the benchmarks share, and the eight that bench.c runs one after the other. */
 #ifndef BENCH_H
 #define BENCH_H
 
@@ -12,6 +12,7 @@ void bench_partials(void);
 void bench_trays(void);
 void bench_updates(void);
 void bench_cards(void);
+void bench_likeness(void);
 void bench_records(void);
 
 /* ends the program */

@@ -19,6 +19,11 @@ static inline void put_column(uint8_t *card, int j, uint32_t column)
     card[3 + 2 * j] = column >> 8;
 }
 
+static inline uint32_t card_column(const uint8_t *card, int j)
+{
+    return card[2 + 2 * j] + 256u * card[3 + 2 * j];
+}
+
 /* a chain of k data disks: column j is data disks j and j + 1 */
 static inline void put_chain(uint8_t *card, int k)
 {
@@ -36,7 +41,7 @@ static inline void job_start(struct job *job, int k, int m)
 
 static inline uint32_t job_column(const struct job *job, int j)
 {
-    return job->card[2 + 2 * j] + 256u * job->card[3 + 2 * j];
+    return card_column(job->card, j);
 }
 
 static inline uint8_t *job_strip(const struct job *job, int disk)

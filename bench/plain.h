@@ -1,5 +1,5 @@
-/* Two encoders, a peeler, an update, a partial rebuild and a stepped card as one would write them in plain C. The last three check what they are
- * given, the others nothing. */
+/* Two encoders, a peeler, an update, a partial rebuild, a stepped card and the comparison of two cards as one would write them in plain C. Update,
+ * partial rebuild and stepped card check what they are given, the others nothing. */
 #ifndef PLAIN_H
 #define PLAIN_H
 
@@ -29,5 +29,8 @@ uint64_t plain_partial_rebuild(struct job *job);
 /* goes through all numbers below 2^m for each size, and each number of that size is the next data disk's parity set. With the refusals of
  * bridgecrumb_card_stepped, in its order */
 uint64_t plain_stepped(size_t d, size_t m, size_t k, uint8_t *out, size_t out_len);
+
+/* sorts the columns of each card by qsort and compares them by memcmp, where k and m are equal. Answers as bridgecrumb_alike does for good cards */
+uint64_t plain_alike(const uint8_t *first, size_t first_len, const uint8_t *second, size_t second_len);
 
 #endif

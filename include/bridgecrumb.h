@@ -71,7 +71,9 @@ uint64_t bridgecrumb_card_write(size_t k, size_t m, const uint16_t *columns, siz
 uint64_t bridgecrumb_card_stepped(size_t d, size_t m, size_t k, uint8_t *out, size_t out_len);
 
 /* Takes two cards.
- * The value is 1 where their k, m and vectors are equal, and 0 where they are not.
+ * The value is 1 where their k and m are equal and their columns are a rearrangement of each other: the same columns, each as often,
+ * in any order; else 0. Where it is 1, the parity disks of the one can be renumbered so that each disk of it is a disk of the other, and
+ * the lists of minimal erasures then match entry for entry. Data disks keep their numbers. Equal vectors are not enough.
  * Refuses 1 to 5, the first card's before the second's. */
 uint64_t bridgecrumb_alike(const uint8_t *first, size_t first_len, const uint8_t *second, size_t second_len);
 

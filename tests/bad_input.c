@@ -67,11 +67,36 @@ static void cards(void)
     TRY(5, 1, card_write(4, 3, wrong_columns, 3, NULL, 0));
     TRY(7, 0, card_write(4, 3, columns, 3, NULL, 0));
     TRY(7, 0, card_write(4, 3, columns, 3, lent.out, 9));
+}
+
+static void two_cards(void)
+{
+    static const uint8_t turned[] = {4, 3, 13, 0, 7, 0, 11, 0}, swapped[] = {4, 3, 7, 0, 11, 0, 14, 0};
+    static const uint8_t two_ones[] = {2, 3, 1, 0, 1, 0, 2, 0}, two_twos[] = {2, 3, 1, 0, 2, 0, 2, 0};
+    static const uint8_t one_three[] = {2, 2, 1, 0, 3, 0}, threes[] = {2, 2, 3, 0, 3, 0}, ones[] = {2, 2, 1, 0, 1, 0};
+    static const uint8_t one_six[] = {3, 2, 1, 0, 6, 0}, two_five[] = {3, 2, 2, 0, 5, 0};
+    uint8_t last[34]; /* the last of 16 columns is another */
+    memcpy(last, most, 34);
+    last[33] = 0x80;
     TRY(0, 1, alike(c1, 8, c1, 8));
-    TRY(0, 0, alike(c1, 8, c3, 6));
+    TRY(0, 1, alike(c1, 8, turned, 8)); /* the same columns in another order */
+    TRY(0, 1, alike(most, 34, most, 34));
+    TRY(0, 0, alike(most, 34, last, 34));
+    TRY(0, 0, alike(c1, 8, swapped, 8));        /* data disks 0 and 1 swapped: only the vectors are equal */
+    TRY(0, 0, alike(one_three, 6, threes, 6));  /* here too */
+    TRY(0, 0, alike(two_ones, 8, two_twos, 8)); /* the same columns, not as often each */
+    TRY(0, 0, alike(one_six, 6, two_five, 6));  /* equal sum and XOR */
+    TRY(0, 0, alike(c4, 6, ones, 6));           /* another k alone */
+    TRY(0, 0, alike(ones, 6, c6, 4));           /* another m */
     TRY(1, 0, alike(NULL, 0, NULL, 0));
+    TRY(1, 0, alike(NULL, 0, wrong + 4, 6));
     TRY(1, 0, alike(c1, 8, NULL, 0));
-    TRY(2, 0, alike(bad, 2, c1, 1));
+    TRY(2, 0, alike(wrong, 4, c1, 1));
+    TRY(2, 0, alike(c1, 8, wrong, 4));
+    TRY(3, 0, alike(c1, 8, wrong + 2, 4));
+    TRY(4, 0, alike(c1, 8, c1, 7));
+    TRY(5, 1, alike(wrong + 4, 6, NULL, 0)); /* the first card's fault before the second's */
+    TRY(5, 1, alike(c1, 8, wrong + 4, 6));   /* the second card's column, though k and m are others */
 }
 
 static void stepped_cards(void)
@@ -235,6 +260,7 @@ static void records(void)
 int main(void)
 {
     cards();
+    two_cards();
     stepped_cards();
     sets();
     stripes();

@@ -75,15 +75,27 @@ pub fn write_stepped_card(d: usize, m: usize, k: usize, out: &mut [u8]) -> Resul
     Ok(())
 }
 
-/// Takes two cards; answers whether they have the same k, m and vector of minimal erasures.
+/// Takes two cards; answers whether they have the same k and m, and columns that are a rearrangement of each other: the
+/// same columns, each as often, in any order. Then the parity disks of the one can be renumbered so that each disk of it is
+/// a disk of the other, and the lists of minimal erasures match entry for entry after it. Data disks keep their numbers.
+/// Equal vectors are not enough.
 ///
 /// Refuses 1 to 5, the first card's faults before the second's. Writes nothing.
 ///
 /// ```
-/// // C6 of document 01, and the same code with its data disks swapped; C3 has another m
-/// let (c6, swapped, c3) = ([2, 1, 1, 0], [2, 1, 2, 0], [2, 2, 1, 0, 2, 0]);
-/// assert!(bridgecrumb::alike(&c6, &swapped)?);
-/// assert!(!bridgecrumb::alike(&c6, &c3)?);
+/// use bridgecrumb::{alike, minimal_erasures};
+/// // C1 of document 01, and its columns in another order: parity disks 4, 5 and 6 of the one are 5, 6 and 4 of the other
+/// let (c1, turned) = ([4, 3, 7, 0, 11, 0, 13, 0], [4, 3, 13, 0, 7, 0, 11, 0]);
+/// assert!(alike(&c1, &turned)?);
+/// let (mut first, mut second) = ([0; 14], [0; 14]);
+/// let told = minimal_erasures(&c1, &mut first)?;
+/// minimal_erasures(&turned, &mut second)?;
+/// assert_eq!((first[0], second[0]), (0b011_0010, 0b110_0010));
+///
+/// // with its data disks 0 and 1 swapped C1 has the same vector, and the cards are not alike
+/// let swapped = [4, 3, 7, 0, 11, 0, 14, 0];
+/// assert_eq!(minimal_erasures(&swapped, &mut second)?.vector, told.vector);
+/// assert!(!alike(&c1, &swapped)?);
 /// # Ok::<(), bridgecrumb::Error>(())
 /// ```
 pub fn alike(first: &[u8], second: &[u8]) -> Result<bool, Error> {

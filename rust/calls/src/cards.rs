@@ -55,6 +55,13 @@ pub fn any_columns(choice: &mut Choice, k: usize, m: usize) -> Vec<u16> {
     columns
 }
 
+/// Columns out of at most half as many, so that some stand more than once where there are two or more.
+pub fn repeated_columns(choice: &mut Choice, k: usize, m: usize) -> Vec<u16> {
+    let different = 1 + choice.below((m + 1) / 2);
+    let from = any_columns(choice, k, different);
+    (0..m).map(|_| choice.pick(&from)).collect()
+}
+
 pub fn card_of_size(choice: &mut Choice, k: usize, m: usize) -> Vec<u8> {
     card_of(k, m, &any_columns(choice, k, m))
 }

@@ -5,9 +5,11 @@ use crate::cards::card_of;
 use crate::input::{bytes_of, Input};
 use crate::lent::{Lent, Place};
 use crate::reference::stepped::{columns, parity_sets};
+use crate::reference::{code, minimal_erasures, read_card, vector};
 use crate::rows::{cards, records, sets, stepped, strips, trays, updates};
 use crate::table::{Engine, Row, TABLE};
 use std::cmp::Reverse;
+use std::collections::BTreeSet;
 use std::env;
 
 /// Whose fault it is.
@@ -38,7 +40,7 @@ pub fn table() -> [Row; TABLE.len()] {
 
 /// Each under a line that says what is wrong.
 #[rustfmt::skip]
-const PLANTED: [Planted; 42] = [
+const PLANTED: [Planted; 43] = [
     // the last wrong column instead of the first
     Archive("card_read", |input, lent| last_wrong_column(input, (cards::READ.engine)(input, lent))),
     // a refusal writes k
@@ -47,8 +49,10 @@ const PLANTED: [Planted; 42] = [
     Archive("card_write", |input, lent| instead(cards::WRITE.engine, input, lent, 5, input.out_len != input.m.wrapping_mul(2).wrapping_add(2), 7)),
     // parity sets of one size by their lowest parity disk, then the next
     Archive("card_stepped", |input, lent| after(stepped::STEPPED.engine, input, lent, 0, |lent, _| lowest_first(input, lent.written(0)))),
-    // alike where the lists are only equally long
-    Archive("alike", |input, lent| instead(cards::ALIKE.engine, input, lent, 0, equally_long(input), 256)),
+    // alike by the vectors, as document 01 had it
+    Archive("alike", |input, lent| instead(cards::ALIKE.engine, input, lent, 0, equal_vectors(input), 256)),
+    // alike where the sets of columns are equal, however often each stands
+    Archive("alike", |input, lent| instead(cards::ALIKE.engine, input, lent, 0, equal_sets(input), 256)),
     // the last byte of some lengths is left out
     Archive("encode", |input, lent| after(strips::ENCODE.engine, input, lent, 0, |lent, _| if input.strip_len % 16 == 15 {
         *lent.written(0).last_mut().unwrap() = *input.stripe.last().unwrap();
@@ -231,10 +235,16 @@ fn lowest_first(input: &Input, card: &mut [u8]) {
     card.copy_from_slice(&card_of(input.k, input.m, &columns(input.m, &sets[..input.k])));
 }
 
-/// Whether the cards have as many disks and as many minimal erasures.
-fn equally_long(input: &Input) -> bool {
-    let needed = |card: &[u8]| bridgecrumb::minimal_erasures(card, &mut []).map_err(|error| error.value());
-    input.card.get(..2) == input.second.get(..2) && needed(&input.card) == needed(&input.second)
+/// Whether the cards have as many disks and the same vector; where that takes long it is not looked at.
+fn equal_vectors(input: &Input) -> bool {
+    let vector_of = |card: &[u8]| code(card).map(|code| vector(&code, &minimal_erasures(&code)));
+    !large(input) && input.card.get(..2) == input.second.get(..2) && vector_of(&input.card) == vector_of(&input.second)
+}
+
+/// Whether the cards have as many disks and the same columns, where one that stands twice counts once.
+fn equal_sets(input: &Input) -> bool {
+    let set_of = |card: &[u8]| read_card(card).map(|(k, m, columns)| (k, m, BTreeSet::from_iter(columns)));
+    set_of(&input.card) == set_of(&input.second)
 }
 
 /// Whether a file with a card has another number of entries than the card's disks need.

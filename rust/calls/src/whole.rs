@@ -37,7 +37,8 @@ pub fn of_length(choice: &mut Choice, strip_len: usize) -> Vec<Input> {
     inputs
 }
 
-/// The codes of most disks: each disk lost, each disk and the next, all but it, all data, all parity and all disks.
+/// The codes of most disks: each disk lost, each disk and the next, all but it, all data, all parity and all disks. The second card has the
+/// same columns, turned on by one place from input to input.
 pub fn largest(choice: &mut Choice, k: usize, m: usize) -> Vec<Input> {
     let card = card_of_size(choice, k, m);
     let n = k + m;
@@ -47,7 +48,9 @@ pub fn largest(choice: &mut Choice, k: usize, m: usize) -> Vec<Input> {
     let sets = near.chain([0, data, all ^ data, all]);
     let of_set = |(at, set): (usize, u32)| {
         let input = lost_of(choice, card.clone(), set, 16);
-        Input { second: card.clone(), disk: at / 3 % n, out_len: 1 << 16, ..input }
+        let mut second = card.clone();
+        second[2..].rotate_left(2 * (at % m));
+        Input { second, disk: at / 3 % n, out_len: 1 << 16, ..input }
     };
     sets.enumerate().map(of_set).collect()
 }

@@ -205,11 +205,16 @@ pub fn equations(code: &Code, disk: usize) -> Result<Rc<Vec<u32>>, Refusal> {
     Ok(made.clone())
 }
 
-/// Two cards alike: the same k, m and vector.
+/// Two cards alike: the same k and m, and the same columns in some order, which are then equal in the order of their numbers.
 pub fn alike(first: &[u8], second: &[u8]) -> Result<bool, Refusal> {
-    let vector_of = |code: &Code| (code.k, code.m, vector(code, &minimal_erasures(code)));
-    let (first, second) = (code(first)?, code(second)?);
-    Ok(vector_of(&first) == vector_of(&second))
+    let sorted = |card: &[u8]| {
+        read_card(card).map(|(k, m, mut columns)| {
+            columns.sort_unstable();
+            (k, m, columns)
+        })
+    };
+    let (first, second) = (sorted(first)?, sorted(second)?);
+    Ok(first == second)
 }
 
 /// A list that goes into a slice of this length.

@@ -1,7 +1,7 @@
 //! The calls on cards alone.
 
 use super::{card_faults, card_then, ways};
-use crate::cards::{any_card, any_columns, c1, card_of, every_card};
+use crate::cards::{any_card, any_columns, c1, card_of, every_card, repeated_columns};
 use crate::choice::Choice;
 use crate::input::{bytes_of, code, Input, Told};
 use crate::reference;
@@ -157,7 +157,7 @@ pub const ALIKE: Row = Row {
     every: every_two,
     good: || Input { card: c1(), second: c1(), ..Input::default() },
     faults: || card_then(card_faults(|input| &mut input.second)),
-    heavy: |input| large(&input.card) || large(&input.second),
+    heavy: |_| false,
     engine: |input, lent| {
         let (first, first_len) = lent.read(&input.card);
         let (second, second_len) = lent.read(&input.second);
@@ -182,45 +182,81 @@ pub fn most_k(choice: &Choice) -> usize {
     }
 }
 
+/// Any card, or one whose columns repeat, and mostly a second one that is made of it.
 fn any_two(choice: &mut Choice) -> Input {
-    let most_k = most_k(choice);
-    let first = any_card(choice, most_k);
-    let second = if choice.one_in(5) { any_card(choice, most_k) } else { near(choice, &first) };
-    Input { card: first, second, ..Input::default() }
+    let card = if choice.one_in(3) {
+        let (k, m) = (1 + choice.below(16), 1 + choice.below(16));
+        card_of(k, m, &repeated_columns(choice, k, m))
+    } else {
+        any_card(choice, 16)
+    };
+    let second = if choice.one_in(6) { any_card(choice, 16) } else { second(choice, &card) };
+    Input { card, second, ..Input::default() }
 }
 
-/// A card that is often alike: data disks and columns in another order, or a column changed, put twice or with one data disk for
-/// another, or one byte changed.
-fn near(choice: &mut Choice, card: &[u8]) -> Vec<u8> {
-    let (k, m, mut columns) = match reference::read_card(card) {
+/// The first card's columns, mostly in another order, which is alike; or changed after that, and then mostly not alike. Any card where the first
+/// is refused.
+fn second(choice: &mut Choice, first: &[u8]) -> Vec<u8> {
+    let (mut k, m, mut columns) = match reference::read_card(first) {
         Ok(read) => read,
         Err(_) => return any_card(choice, 6),
     };
-    for _ in 0..choice.below(4) {
-        let (one, other) = (choice.below(k), choice.below(k));
-        columns.iter_mut().for_each(|column| swap_disks(column, one, other));
-        let (one, other) = (choice.below(m), choice.below(m));
-        columns.swap(one, other);
+    if !choice.one_in(4) {
+        (1..m).for_each(|at| columns.swap(at, choice.below(at + 1)));
     }
-    match choice.below(8) {
-        0 => columns[0] = columns[m - 1],
-        1 => columns[m - 1] = 1 << choice.below(k),
-        2 => return card_of(k, m - 1, &columns[1..]),
-        3 => {
-            let mut changed = card.to_vec();
-            changed[choice.below(card.len())] ^= choice.byte();
-            return changed;
+    match choice.below(16) {
+        0 | 1 => other_multiplicities(choice, &mut columns),
+        2 | 3 => other_column(choice, k, &mut columns),
+        4 | 5 => exchange_disks(choice, &mut columns),
+        6 | 7 => renumber_data(choice, k, &mut columns),
+        8 => k = choice.pick(&[k - 1, k + 1, 16]),
+        9 => columns.truncate(m - 1),
+        10 => columns.push(columns[0]),
+        11 => {
+            let mut card = card_of(k, m, &columns);
+            card[choice.below(2 + 2 * m)] ^= choice.byte();
+            return card;
         }
-        4 => swap_disks(&mut columns[choice.below(m)], choice.below(k), choice.below(k)),
         _ => {}
     }
-    card_of(k, m, &columns)
+    card_of(k, columns.len(), &columns)
 }
 
-/// One data disk for the other in a column.
-fn swap_disks(column: &mut u16, one: usize, other: usize) {
-    let differ = (*column >> one ^ *column >> other) & 1;
-    *column ^= differ << one ^ differ << other;
+/// A column that stands more than once gives way to any of them: the same columns, and not as often each.
+fn other_multiplicities(choice: &mut Choice, columns: &mut [u16]) {
+    if let Some(again) = (1..columns.len()).find(|&j| columns[..j].contains(&columns[j])) {
+        columns[again] = choice.pick(columns);
+    }
+}
+
+/// One column has one or two data disks more or less, unless nothing is left.
+fn other_column(choice: &mut Choice, k: usize, columns: &mut [u16]) {
+    let at = choice.below(columns.len());
+    let changed = columns[at] ^ (1 << choice.below(k) | 1 << choice.below(k));
+    if changed != 0 {
+        columns[at] = changed;
+    }
+}
+
+/// Two columns exchange some of their data disks, unless nothing is left of one: the sum and the XOR of all columns stay.
+fn exchange_disks(choice: &mut Choice, columns: &mut [u16]) {
+    let (one, other) = (choice.below(columns.len()), choice.below(columns.len()));
+    let some = (columns[one] ^ columns[other]) & choice.below(0x10000) as u16;
+    if columns[one] != some && columns[other] != some {
+        columns[one] ^= some;
+        columns[other] ^= some;
+    }
+}
+
+/// Data disks in another order: the vectors stay equal.
+fn renumber_data(choice: &mut Choice, k: usize, columns: &mut [u16]) {
+    for _ in 0..1 + choice.below(3) {
+        let (one, other) = (choice.below(k), choice.below(k));
+        for column in columns.iter_mut() {
+            let differ = (*column >> one ^ *column >> other) & 1;
+            *column ^= differ << one ^ differ << other;
+        }
+    }
 }
 
 /// Every two cards of up to 6 disks.

@@ -1,5 +1,6 @@
 //! Every call of the table beside its reference, and what the documents say of single codes.
 
+mod alike;
 mod demand3;
 mod drivers;
 mod methods;

@@ -17,7 +17,7 @@ pub fn worked(name: &str, input: Input, answer: u64, written: Vec<Vec<u8>>) {
     (0..3).for_each(|turn| assert_eq!(row.try_input(&input, &mut lent, Place::of_turn(turn)), answer));
 }
 
-/// The list and the vector of a code, which is not alike to C1's with its last column changed.
+/// The list and the vector of a code. Its card is alike to itself, and not to C1's with its last column changed.
 fn listed(k: usize, columns: &[u16], list: &[u32], vector: &[usize]) {
     let card = card_of(k, columns.len(), columns);
     let mut places = [0; 17];
@@ -57,13 +57,6 @@ fn verdicts() {
     verdict(4, &[7, 11, 13], 7, 0);
     verdict(2, &[1, 2], 15, 15);
     verdict(2, &[1], 6, 2);
-}
-
-/// Their vectors are 0 3 0 3 and 0 3 0 0.
-#[test]
-fn not_alike_by_the_last_number_alone() {
-    let (card, second) = (card_of(3, 3, &[1, 1, 7]), card_of(3, 3, &[1, 2, 4]));
-    worked("alike", Input { card, second, ..Input::default() }, 0, Vec::new());
 }
 
 /// C2, and what tells the order of document 02, request [6]: of C1's disk 2, 73 has one parity disk and 56 two; of two parity disks that hold
