@@ -1,13 +1,13 @@
 -- Columns counted in their bytes tell whether those of two cards are a rearrangement of each other.
 -- Assumes nothing.
-use mathlib.Core.Path.{_≡_, refl, sym, ap, ap₂, _∙_}
+use mathlib.Core.Path.{_≡_, refl, sym, ap, ap₂, _∙_, subst}
 use mathlib.Core.Bool.{Bool, true, false}
 use mathlib.Core.List.{List}
 use Prim.Native.Nat.{ℕ, _+_, _-_, _*_, _≤_, _<_}
 use native.Mathlib.Numerals.{add-one}
 use native.Mathlib.Omega.{arith}
 use lib.Dec.{T, eqb}
-use Rattle.gf2.proofs.Tests.{true-T, false-T, T-false, T-ext, and-in, eqb-in, eqb-out}
+use Rattle.gf2.proofs.Tests.{T-false, and-in, eqb-in, eqb-out}
 use Rattle.flat.specs.Lists.{every, count, field}
 use Rattle.flat.specs.Cards.{Code, codeIn, column}
 use Rattle.flat.specs.Alike.{occurrences, asOften, rearranged}
@@ -50,33 +50,29 @@ module _ (own other : List ℕ) (c i balance : ℕ) (h : Balance own other c i b
   balance-more x y a b n e f p q r =
       omega (arith, one-more own c i x e, one-more other c i y f, one-most (eqb y c) b q, balance-within .0)
 
--- it is where it began exactly where both have as many
-pub balance-end : (own other : List ℕ) (c m balance : ℕ) → Balance own other c m balance → eqb balance 16 ≡ eqb (standing m own c) (standing m other c)
-balance-end own other c m balance h =
-    T-ext (λ t. eqb-in {a = standing m own c} (omega (arith, eqb-out balance 16 t)))
-    (λ t. eqb-in {a = balance} (omega (arith, eqb-out (standing m own c) (standing m other c) t)))
-
 -- ---- the columns gone through
 
 pub often-none : (m : ℕ) (own other : List ℕ) → T (standAsOften 0 m own other)
 unfolding standAsOften every
 often-none m own other = tt
 
--- what was found of column j
-module _ (m : ℕ) (own other : List ℕ) (j c : ℕ) (e : c ≡ field (2 * j) 2 own) (t : Bool) (h : t ≡ eqb (standing m own c) (standing m other c)) where
+-- the balance b of column j
+module _ (m : ℕ) (own other : List ℕ) (j c b : ℕ) (e : c ≡ field (2 * j) 2 own) (h : Balance own other c m b) where
   abbrev same : ℕ → Bool
   same i = eqb (standing m own (field (2 * i) 2 own)) (standing m other (field (2 * i) 2 own))
 
-  found : same j ≡ t
-  found = ap (λ (x : ℕ). eqb (standing m own x) (standing m other x)) (sym e) ∙ sym h
+  at-column : Balance own other (field (2 * j) 2 own) m b
+  at-column = subst (λ (x : ℕ). Balance own other x m b) e h
 
-  pub often-more : T (standAsOften j m own other) → t ≡ true → T (standAsOften (j + 1) m own other)
+  pub often-more : T (standAsOften j m own other) → b ≡ 16 → T (standAsOften (j + 1) m own other)
   unfolding standAsOften every
-  often-more a f = rw (add-one j) (and-in (every j same) (same j) a (true-T (found ∙ f)))
+  often-more t f =
+      rw (add-one j) (and-in (every j same) (same j) t (eqb-in {a = standing m own (field (2 * j) 2 own)} (omega (arith, at-column, f))))
 
-  pub often-fails : (n : ℕ) → j < n → t ≡ false → false ≡ standAsOften n m own other
+  pub often-fails : (n : ℕ) → j < n → (b ≡ 16 → ⊥) → false ≡ standAsOften n m own other
   unfolding standAsOften
-  often-fails n l f = sym (T-false (λ a. false-T (found ∙ f) (every-out n same a j l)))
+  often-fails n l f =
+      sym (T-false (λ t. f (omega (arith, at-column, eqb-out (standing m own (field (2 * j) 2 own)) _ (every-out n same t j l)))))
 
 -- ---- codes
 

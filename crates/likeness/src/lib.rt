@@ -4,7 +4,7 @@
 // Every two byte strings are legal arguments. What alike means is said in flat/specs/Alike.antt, and what
 // is answered for which input in flat/specs/Faults.antt.
 ghost use mathlib.Core.Path.{_≡_};
-ghost use Prim.Native.Nat.{ℕ, _*_, _≤_};
+ghost use Prim.Native.Nat.{ℕ, _+_, _*_, _≤_};
 ghost use lib.Dec.{eqb};
 ghost use lib.ListN.{length};
 ghost use Rattle.flat.specs.Cards.{codeIn};
@@ -32,18 +32,20 @@ fn equal(a: u16, b: u16) -> u16
     0
 }
 
-// Whether c stands as often among the m columns of the one card as among those of the other. One number goes up
-// for each of the one's and down for each of the other's; it is as wide as a column, so that the compiler
-// compares and counts eight of each at once.
-fn as_often(own: &[u8], other: &[u8], m: usize, c: u16) -> bool
+// The balance of a column that stands as often in both cards.
+const EVEN: u16 = 16;
+
+// The balance of c: up from even for each of the m columns of the one card that is c, and down for each of the
+// other's. It is as wide as a column, so that the compiler compares and counts eight of each at once.
+fn balance(own: &[u8], other: &[u8], m: usize, c: u16) -> u16
     requires { ⌜ (m ≤ 16) × (length (now own) ≡ 2 * m) × (length (now other) ≡ 2 * m) ⌝ }
-    ensures { λ r. ⌜ r ≡ eqb (standing m (now (own .entry)) c) (standing m (now (other .entry)) c) ⌝ }
+    ensures { λ r. ⌜ r + standing m (now (other .entry)) c ≡ 16 + standing m (now (own .entry)) c ⌝ }
 {
-    let mut balance = 16u16;
+    let mut balance = EVEN;
     for i in 0..m {
         balance = balance + equal(card::column(own, i), c) - equal(card::column(other, i), c);
     }
-    balance == 16
+    balance
 }
 
 // Whether the m columns of two cards are a rearrangement of each other. With as many in both, it is enough
@@ -53,7 +55,7 @@ fn rearranged(first: &[u8], second: &[u8], m: usize) -> bool
     ensures { λ r. ⌜ ((k : ℕ) → r ≡ rearranged (codeIn k m (now (first .entry))) (codeIn k m (now (second .entry)))) ⌝ }
 {
     for j in 0..m {
-        if !as_often(first, second, m, card::column(first, j)) {
+        if balance(first, second, m, card::column(first, j)) != EVEN {
             return false;
         }
     }

@@ -63,14 +63,14 @@ returns : tie.Need-returns
 unfolding yesNo
 returns c =
     let b = c .before in
-    alike-both _ _ _ _ (known (prior b)) _ _ (known2 b) false (data-differs _ _ _ _ (known (prior b)) _ _ (known2 b) (c .if1 .taken))
+    alike-both _ _ _ _ (known (prior b)) _ _ (known2 b) false (data-differs _ _ _ _ (known (prior b)) _ _ (known2 b) (λ e. omega (arith, e, c .if1 .taken)))
 
 returns-2 : tie.Need-returns-2
 unfolding yesNo
 returns-2 c =
     let b = c .before .before in
     alike-both _ _ _ _ (known (prior b)) _ _ (known2 b) false
-    (parity-differs _ _ _ _ (known (prior b)) _ _ (known2 b) (c .before .if1 .left) (c .if2 .taken))
+    (parity-differs _ _ _ _ (known (prior b)) _ _ (known2 b) (omega arith) (λ e. omega (arith, e, c .if2 .taken)))
 
 columns-requires : tie.Need-columns-requires
 columns-requires c κs = known (prior (c .before .before)) .long
@@ -98,7 +98,7 @@ decided : (c : tie.After-rearranged)
     (codeIn (dataAt b) (parityAt b) (columnBytes (now (start p .args .second))))
 decided c =
     let b = both c .before .before in
-    columns-decide _ _ _ _ (known (prior b)) _ _ (known2 b) (both c .before .if1 .left) (both c .if2 .left) _ _ (c .before .before .columns .ensures)
+    columns-decide _ _ _ _ (known (prior b)) _ _ (known2 b) (omega (arith, both c .before .if1 .left)) (omega (arith, both c .if2 .left)) _ _ (c .before .before .columns .ensures)
     (c .before .columns2 .ensures) _ (c .rearranged .ensures _)
 
 returns-3 : tie.Need-returns-3

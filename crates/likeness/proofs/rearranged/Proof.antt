@@ -4,7 +4,6 @@ use mathlib.Core.Path.{_≡_, sym, _∙_, subst}
 use Prim.Native.Nat.{ℕ, _-_, _≤_}
 use native.Mathlib.Omega.{arith}
 use borrow.Author.Needs.{needs}
-use borrow.Author.Tests.{not-true, not-false}
 use denote.Ref.{now}
 use lib.Dec.{T}
 use Rattle.gf2.proofs.Tests.{T-true}
@@ -25,13 +24,13 @@ loop-holds c = (omega arith, often-none _ _ _)
 column-requires : tie.Need-column-requires Inv-loop μ-loop
 column-requires c κs = search needs
 
-as-often-requires : tie.Need-as-often-requires Inv-loop μ-loop
-as-often-requires c κs = search needs
+balance-requires : tie.Need-balance-requires Inv-loop μ-loop
+balance-requires c κs = search needs
 
 returns : tie.Need-returns Inv-loop μ-loop
 returns c k =
     let v = c .before in
-    often-fails _ _ _ _ _ (v .before .column .ensures) _ (v .as-often .ensures) _ (omega arith) (not-true _ (c .if1 .taken)) ∙ stand-rearranged k _ _ _
+    often-fails _ _ _ _ _ _ (v .before .column .ensures) (v .balance .ensures) _ (omega arith) (λ e. omega (arith, e, c .if1 .taken)) ∙ stand-rearranged k _ _ _
 
 add-j : tie.Need-add-j Inv-loop μ-loop
 add-j c = search needs
@@ -43,7 +42,7 @@ loop-again : tie.Need-loop-again Inv-loop μ-loop
 loop-again c =
     let v = c .before in
     let l = v .before .before .before .loop in
-    (omega arith, often-more _ _ _ _ _ (v .before .column .ensures) _ (v .as-often .ensures) (l .inv .1) (not-false _ (c .if1 .left)))
+    (omega arith, often-more _ _ _ _ _ _ (v .before .column .ensures) (v .balance .ensures) (l .inv .1) (omega arith))
 
 returns-2 : tie.Need-returns-2 Inv-loop μ-loop
 returns-2 c k =
@@ -60,7 +59,7 @@ rearranged-spec =
     μ-loop
     loop-holds
     column-requires
-    as-often-requires
+    balance-requires
     returns
     add-j
     loop-less

@@ -1,13 +1,13 @@
--- `likeness::as_often` meets its contract: the columns gone through are balanced against each other.
+-- `likeness::balance` meets its contract: the columns gone through are in the balance.
 -- Assumes nothing.
 use mathlib.Core.Path.{_≡_, subst}
 use Prim.Native.Nat.{ℕ, _-_, _≤_}
 use native.Mathlib.Omega.{arith}
 use borrow.Author.Needs.{needs}
 use denote.Ref.{now}
-use Rattle.likeness.proofs.Counted.{Balance, balance-none, balance-within, balance-more, balance-end, one-most}
-use Rattle.likeness.proofs.as_often.Statement.{statement}
-use Rattle.likeness.proofs.as_often.Tie as tie
+use Rattle.likeness.proofs.Counted.{Balance, balance-none, balance-within, balance-more, one-most}
+use Rattle.likeness.proofs.balance.Statement.{statement}
+use Rattle.likeness.proofs.balance.Tie as tie
 
 abbrev Inv-loop : tie.InvT-loop
 Inv-loop own other m c balance₀ i₀ balance i = (i ≤ m) × Balance own other c i balance
@@ -59,10 +59,10 @@ returns c =
     let l = c .before .loop in
     let a = c .before .before .before .before .args in
     let e : l .i ≡ a .m = omega arith in
-    balance-end _ _ _ _ _ (subst (λ (i : ℕ). Balance (now (a .own)) (now (a .other)) (a .c) i (l .balance)) e (l .inv .1))
+    subst (λ (i : ℕ). Balance (now (a .own)) (now (a .other)) (a .c) i (l .balance)) e (l .inv .1)
 
-pub as-often-spec : {M : Type 1} → statement M
-as-often-spec =
+pub balance-spec : {M : Type 1} → statement M
+balance-spec =
     tie.close
     (tie.spec
     Inv-loop
