@@ -16,7 +16,7 @@ use Rattle.flat.proofs.Cards.{column-at}
 use Rattle.flat.proofs.Quantifiers.{every-cong, every-out}
 use Rattle.flat.proofs.Counts.{count-cong, count-le}
 use Rattle.renumbering.proofs.Alike.{one-side-enough}
-use Rattle.likeness.specs.Forms.{standing, standAsOften}
+use Rattle.likeness.specs.Forms.{standing}
 
 -- ---- the balance: up for each of the one's columns that is c, and down for each of the other's
 
@@ -51,6 +51,11 @@ module _ (own other : List ℕ) (c i balance : ℕ) (h : Balance own other c i b
       omega (arith, one-more own c i x e, one-more other c i y f, one-most (eqb y c) b q, balance-within .0)
 
 -- ---- the columns gone through
+
+-- does each of the first n columns stand as often among the m of the other card as among the m of its own?
+unfoldable pub standAsOften : ℕ → ℕ → List ℕ → List ℕ → Bool
+unfolding every standing
+standAsOften n m own other = every n (λ j. eqb (standing m own (field (2 * j) 2 own)) (standing m other (field (2 * j) 2 own)))
 
 pub often-none : (m : ℕ) (own other : List ℕ) → T (standAsOften 0 m own other)
 unfolding standAsOften every

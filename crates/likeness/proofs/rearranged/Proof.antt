@@ -7,8 +7,7 @@ use borrow.Author.Needs.{needs}
 use denote.Ref.{now}
 use lib.Dec.{T}
 use Rattle.gf2.proofs.Tests.{T-true}
-use Rattle.likeness.specs.Forms.{standAsOften}
-use Rattle.likeness.proofs.Counted.{often-none, often-more, often-fails, stand-rearranged}
+use Rattle.likeness.proofs.Counted.{standAsOften, often-none, often-more, often-fails, stand-rearranged}
 use Rattle.likeness.proofs.rearranged.Statement.{statement}
 use Rattle.likeness.proofs.rearranged.Tie as tie
 
