@@ -8,7 +8,6 @@ use Prim.Native.Nat.{ℕ, suc, _^_, _≤_, _<_}
 use native.Mathlib.Nat.{mod-lt, lt-irrefl}
 use native.Mathlib.Omega.{arith}
 use lib.Dec.{T}
-use lib.ListN.{length}
 use lib.Pow.{pow-pos}
 use Rattle.gf2.specs.Sets.{size, _⊆_}
 use Rattle.gf2.specs.Span.{select, Minimal}
@@ -93,8 +92,19 @@ module _ (C : Code) where
   by-word : List ℕ
   by-word = map (select (rows C)) (selectors (rows C))
 
-  word-selects : (x : ℕ) → x < 2 ^ length (rows C) → dataPart C (select (rows C) x) ≡ x
-  word-selects x l = ap (dataPart C) (select-rows C x) ∙ codeword-data C x (subst (λ (n : ℕ). x < 2 ^ n) (rows-length C) l)
+  -- a number selects a minimal word where its codeword is one
+  pub word-in : (x : ℕ) → x < 2 ^ C .k → Minimal (rows C) (codeword C x) → In x (selectors (rows C))
+  word-in x l h =
+      selectors-in (rows C) (rows-indep C) x (subst (λ (n : ℕ). x < 2 ^ n) (sym (rows-length C)) l)
+      (subst (Minimal (rows C)) (sym (select-rows C x)) h)
+
+  pub word-out : (x : ℕ) → In x (selectors (rows C)) → (x < 2 ^ C .k) × Minimal (rows C) (codeword C x)
+  word-out x t =
+      let (l, h) = selectors-out (rows C) (rows-indep C) x t in
+      (subst (λ (n : ℕ). x < 2 ^ n) (rows-length C) l, subst (Minimal (rows C)) (select-rows C x) h)
+
+  word-selects : (x : ℕ) → In x (selectors (rows C)) → dataPart C (select (rows C) x) ≡ x
+  word-selects x t = ap (dataPart C) (select-rows C x) ∙ codeword-data C x (word-out x t .0)
 
   pub erasures-enumerated : erasures C ≡ erasuresByWord C
   unfolding erasuresByWord by-word
@@ -103,8 +113,8 @@ module _ (C : Code) where
       (erasures C) (orderedBy size (suc (disks C)) by-word) erasures-wide
       (sorted-ordered (Lex (dataPart C) (λ R S. R < S)) size by-word
       (sorted-map (λ x y. x < y) (Lex (dataPart C) (λ R S. R < S)) (select (rows C)) (selectors (rows C))
-      (λ x y t u l. inl (subst (λ (a : ℕ). a < dataPart C (select (rows C) y)) (sym (word-selects x (selectors-out (rows C) (rows-indep C) x t .0)))
-      (subst (λ (b : ℕ). x < b) (sym (word-selects y (selectors-out (rows C) (rows-indep C) y u .0))) l)))
+      (λ x y t u l. inl (subst (λ (a : ℕ). a < dataPart C (select (rows C) y)) (sym (word-selects x t))
+      (subst (λ (b : ℕ). x < b) (sym (word-selects y u)) l)))
       (selectors-sorted (rows C)))
       (suc (disks C)))
       to from
@@ -119,12 +129,11 @@ module _ (C : Code) where
           let h : size S ≤ disks C = size-lt (disks C) S (a .0) in
           ordered-in size (suc (disks C)) S by-word (omega arith)
           (subst (λ (y : ℕ). In y by-word) e
-          (map-in (select (rows C)) x (selectors (rows C))
-          (selectors-in (rows C) (rows-indep C) x (subst (λ (n : ℕ). x < 2 ^ n) (sym (rows-length C)) (r .1)) (subst (Minimal (rows C)) (sym e) m))))
+          (map-in (select (rows C)) x (selectors (rows C)) (word-in x (r .1) (subst (Minimal (rows C)) (sym (r .2)) m))))
 
       from : (S : ℕ) → In S (orderedBy size (suc (disks C)) by-word) → In S (erasures C)
       from S t =
           let a = ordered-out size (suc (disks C)) S by-word t in
           let r = map-out (select (rows C)) S (selectors (rows C)) (a .1) in
-          let m : Minimal (rows C) S = subst (Minimal (rows C)) (r .2) (selectors-out (rows C) (rows-indep C) (r .0) (r .1) .1) in
+          let m : Minimal (rows C) S = subst (Minimal (rows C)) (sym (select-rows C (r .0)) ∙ r .2) (word-out (r .0) (r .1) .1) in
           erasures-in S (word-below C S (m .word)) (minimal-in C S m)

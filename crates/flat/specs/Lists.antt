@@ -1,5 +1,6 @@
 -- The words that the definitions are written in: tests over the numbers below a bound, lists made from numbers, and bytes.
 -- Assumes nothing.
+use mathlib.Core.Path.{_≡_}
 use mathlib.Core.Bool.{Bool, true, false, _&&_, _||_}
 use mathlib.Core.List.{List, [], _∷_, _++_}
 use Prim.Native.Nat.{ℕ, zero, suc, _+_, _-_, _*_, _/_, _%_, _<_}
@@ -65,6 +66,11 @@ same (x ∷ xs) (y ∷ ys) = eqb x y && same xs ys
 unfoldable pub member : ℕ → List ℕ → Bool
 member x [] = false
 member x (y ∷ ys) = eqb x y || member x ys
+
+-- π rearranges the numbers below n: each goes to one of them, and no two to one
+pub record Permutes (n : ℕ) (π : ℕ → ℕ) : Type 0 where
+  pub below : (i : ℕ) → i < n → π i < n
+  pub distinct : (i j : ℕ) → i < n → j < n → π i ≡ π j → i ≡ j
 
 -- n places: the list, then zeros
 unfoldable pub padded : ℕ → List ℕ → List ℕ

@@ -122,9 +122,9 @@ size-one S e =
     let n : S ∖ 2 ^ lowest S ≡ 0 = size-none (S ∖ 2 ^ lowest S) (omega arith) in
     sym (less-back S (lowest S) m) ∙ ap (λ (x : ℕ). x ⊕ 2 ^ lowest S) n ∙ zero-⊕ (2 ^ lowest S)
 
--- a set is inside another where the disks of just one of the two are as many as the other has more
-pub ⊆-size : (R S : ℕ) → T (R ⊆ S) ↔ (size R + size (R ⊕ S) ≡ size S)
-⊆-size R S = (
+-- R lies inside S exactly where its disks and those of just one of the two add up to as many as S has
+pub inside-sizes : (R S : ℕ) → T (R ⊆ S) ↔ (size R + size (R ⊕ S) ≡ size S)
+inside-sizes R S = (
   λ t. omega (arith, ap size (⊆-none R S t), size-zero, size-split R S, size-⊕ R S),
   λ e. none-⊆ R S (size-none (R ∖ S) (omega (arith, e, size-split R S, size-⊕ R S))),
 )

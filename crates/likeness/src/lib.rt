@@ -33,15 +33,15 @@ fn equal(a: u16, b: u16) -> u16
 }
 
 // The balance of a column that stands as often in both cards.
-const EVEN: u16 = 16;
+const LEVEL: u16 = 16;
 
-// The balance of c: up from even for each of the m columns of the one card that is c, and down for each of the
+// The balance of c: up from level for each of the m columns of the one card that is c, and down for each of the
 // other's. It is as wide as a column, so that the compiler compares and counts eight of each at once.
 fn balance(own: &[u8], other: &[u8], m: usize, c: u16) -> u16
     requires { ⌜ (m ≤ 16) × (length (now own) ≡ 2 * m) × (length (now other) ≡ 2 * m) ⌝ }
     ensures { λ r. ⌜ r + standing m (now (other .entry)) c ≡ 16 + standing m (now (own .entry)) c ⌝ }
 {
-    let mut balance = EVEN;
+    let mut balance = LEVEL;
     for i in 0..m {
         balance = balance + equal(card::column(own, i), c) - equal(card::column(other, i), c);
     }
@@ -55,7 +55,7 @@ fn rearranged(first: &[u8], second: &[u8], m: usize) -> bool
     ensures { λ r. ⌜ ((k : ℕ) → r ≡ rearranged (codeIn k m (now (first .entry))) (codeIn k m (now (second .entry)))) ⌝ }
 {
     for j in 0..m {
-        if balance(first, second, m, card::column(first, j)) != EVEN {
+        if balance(first, second, m, card::column(first, j)) != LEVEL {
             return false;
         }
     }

@@ -71,10 +71,9 @@ pub alike-renumbers : AlikeRenumbers
 alike-renumbers A B = (
   λ t. let (p, q, s) = alike-out A B t in
       let (π, h) = one-side A B q s in
-      (π, record { same-k = p; same-m = q; below = h .permutes .below; distinct = h .permutes .distinct; carries = h .carried }),
+      (π, record { same-k = p; same-m = q; permutes = h .permutes; carries = h .carried }),
   λ (π, r). alike-in A B (r .same-k) (r .same-m)
-      (rearranged-in A B (carried A B (r .same-m) π
-      (record { permutes = record { below = r .below; distinct = r .distinct }; carried = r .carries }))),
+      (rearranged-in A B (carried A B (r .same-m) π (record { permutes = r .permutes; carried = r .carries }))),
 )
 
 pub alike-occurrences : AlikeOccurrences

@@ -10,14 +10,14 @@ use borrow.Author.Tests.{lt-ltb, le-ltb}
 use lib.Dec.{T, eqb}
 use Rattle.gf2.specs.Sets.{bit, has, size, over}
 use Rattle.gf2.proofs.Tests.{T-ext, and-in, and-out, eqb-in, eqb-out, below-or}
-use Rattle.flat.specs.Lists.{some}
+use Rattle.flat.specs.Lists.{some, Permutes}
 use Rattle.flat.specs.Cards.{Code, code, disks}
 use Rattle.flat.specs.Strips.{holds}
 use Rattle.flat.specs.Erasures.{holdsBit}
 use Rattle.flat.specs.Spans.{codeword}
-use Rattle.flat.proofs.Quantifiers.{some-in, some-out, set-is}
+use Rattle.flat.proofs.Quantifiers.{some-in, some-out, has-set, set-is}
 use Rattle.flat.proofs.Counts.{count-cong, size-count}
-use Rattle.flat.proofs.Permuting.{Permutes, count-permuted, taken}
+use Rattle.flat.proofs.Permuting.{count-permuted, taken}
 use Rattle.flat.proofs.Words.{holds-data, holds-parity, codeword-lt, codeword-bit}
 use Rattle.renumbering.specs.Renumbering.{Renumbering, place, renumbered}
 
@@ -56,14 +56,14 @@ module _ (k m : ℕ) (us vs : List ℕ) (π : ℕ → ℕ) (r : Renumbering (cod
     where
       within : (d : ℕ) → Kind d → to d < k + m
       within d (inl l) = omega (arith, to-data d l)
-      within d (inr (j, l, e)) = omega (arith, to-parity d j e, r .below j l)
+      within d (inr (j, l, e)) = omega (arith, to-parity d j e, r .permutes .below j l)
 
       apart : (d e : ℕ) → to d ≡ to e → Kind d → Kind e → d ≡ e
       apart d e h (inl s) (inl t) = omega (arith, h, to-data d s, to-data e t)
       apart d e h (inl s) (inr (j, t, q)) = absurd (omega (arith, h, to-data d s, to-parity e j q))
       apart d e h (inr (i, s, p)) (inl t) = absurd (omega (arith, h, to-data e t, to-parity d i p))
       apart d e h (inr (i, s, p)) (inr (j, t, q)) =
-          let z : π i ≡ π j = omega (arith, h, to-parity d i p, to-parity e j q) in omega (arith, r .distinct i j s t z)
+          let z : π i ≡ π j = omega (arith, h, to-parity d i p, to-parity e j q) in omega (arith, r .permutes .distinct i j s t z)
 
   -- ---- what they hold
 
@@ -104,6 +104,10 @@ module _ (k m : ℕ) (us vs : List ℕ) (π : ℕ → ℕ) (r : Renumbering (cod
       let a = and-out (has S e) (eqb (to e) (to d)) u in
       subst (λ (x : ℕ). T (has S x)) (to-permutes .distinct e d h l (eqb-out (to e) (to d) (a .1))) (a .0))
       (λ t. some-in (disks A) (λ e. has S e && eqb (to e) (to d)) (d, l, and-in (has S d) (eqb (to d) (to d)) t (eqb-in {a = to d} refl)))
+
+  pub renumbered-has : (S d : ℕ) → d < disks A → has (renumbered A π S) (place A π d) ≡ has S d
+  unfolding disks renumbered among to
+  renumbered-has S d l = has-set (disks A) (among S) (to d) (to-permutes .below d l) ∙ among-has S d l
 
   -- each disk is the place of some disk
   pub renumbered-codeword : (x : ℕ) → renumbered A π (codeword A x) ≡ codeword B x

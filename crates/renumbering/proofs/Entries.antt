@@ -8,7 +8,7 @@ use lib.Dec.{T, eqb}
 use lib.ListN.{length, length-map}
 use Rattle.gf2.specs.Sets.{size, _⊕_, _⊆_}
 use Rattle.gf2.specs.Span.{Minimal, select}
-use Rattle.gf2.proofs.Sizes.{⊆-size}
+use Rattle.gf2.proofs.Sizes.{inside-sizes}
 use Rattle.flat.specs.Lists.{range, filter, orderedBy}
 use Rattle.flat.specs.Cards.{Code, code, disks, dataPart}
 use Rattle.flat.specs.Erasures.{erasures, places, vector}
@@ -17,29 +17,18 @@ use Rattle.flat.proofs.Members.{In, map-out}
 use Rattle.flat.proofs.Filters.{filter-map, filter-cong, map-cong}
 use Rattle.flat.proofs.Blocks.{ordered-map, ordered-cong}
 use Rattle.flat.proofs.Order.{sorted-unique, lt-asym}
-use Rattle.flat.proofs.Least.{selectors-in, selectors-out, selectors-sorted}
+use Rattle.flat.proofs.Least.{selectors-sorted}
 use Rattle.flat.proofs.Words.{codeword-⊕, codeword-zero, codeword-nonzero, codeword-data}
-use Rattle.flat.proofs.Rows.{rows-length, rows-indep, rows-span, select-rows}
-use Rattle.flat.proofs.ErasuresListed.{erasures-enumerated}
+use Rattle.flat.proofs.Rows.{rows-span, select-rows}
+use Rattle.flat.proofs.ErasuresListed.{word-in, word-out, erasures-enumerated}
 use Rattle.renumbering.specs.Renumbering.{Renumbering, renumbered}
 use Rattle.renumbering.specs.Theorems.{Interchange, DisksInterchange, ErasuresMatch}
 use Rattle.renumbering.proofs.Codewords as codes
 
 -- ---- minimal words
 
--- the numbers that select a minimal word, and what they select
 module _ (C : Code) where
-  word-in : (x : ℕ) → x < 2 ^ C .k → Minimal (rows C) (codeword C x) → In x (selectors (rows C))
-  word-in x l h =
-      selectors-in (rows C) (rows-indep C) x (subst (λ (n : ℕ). x < 2 ^ n) (sym (rows-length C)) l)
-      (subst (Minimal (rows C)) (sym (select-rows C x)) h)
-
-  word-out : (x : ℕ) → In x (selectors (rows C)) → (x < 2 ^ C .k) × Minimal (rows C) (codeword C x)
-  word-out x t =
-      let (l, h) = selectors-out (rows C) (rows-indep C) x t in
-      (subst (λ (n : ℕ). x < 2 ^ n) (rows-length C) l, subst (Minimal (rows C)) (select-rows C x) h)
-
-  -- the list of minimal erasures is made from them, in the order of their sizes
+  -- the list of minimal erasures is made from the numbers that select a minimal word, in the order of its size
   abbrev ordered : List ℕ
   ordered = orderedBy (λ x. size (codeword C x)) (suc (disks C)) (selectors (rows C))
 
@@ -54,10 +43,10 @@ module _ (C : Code) where
 module _ (P Q : Code) (same-k : P .k ≡ Q .k) (sizes : (x : ℕ) → size (codeword Q x) ≡ size (codeword P x)) where
   inside : (x y : ℕ) → T (codeword Q x ⊆ codeword Q y) → T (codeword P x ⊆ codeword P y)
   inside x y t =
-      ⊆-size (codeword P x) (codeword P y) .1
+      inside-sizes (codeword P x) (codeword P y) .1
       (omega (
         arith,
-        ⊆-size (codeword Q x) (codeword Q y) .0 t,
+        inside-sizes (codeword Q x) (codeword Q y) .0 t,
         sizes x,
         sizes y,
         ap size (sym (codeword-⊕ Q x y)) ∙ sizes (x ⊕ y) ∙ ap size (codeword-⊕ P x y),
@@ -138,11 +127,13 @@ module _ (P : Code → Code → (ℕ → ℕ) → Type 0)
       (h (A .k) (A .m) (A .columns) (B .columns) π) r
 
 pub disks-interchange : DisksInterchange
-unfolding disks
 disks-interchange =
     of-counts Interchange
-    (λ k m us vs π r. let p = codes.to-permutes k m us vs π r in
-    record { below = p .below; distinct = p .distinct; same = codes.holds-same k m us vs π r })
+    (λ k m us vs π r. record {
+      permutes = codes.to-permutes k m us vs π r;
+      same = codes.holds-same k m us vs π r;
+      sets = codes.renumbered-has k m us vs π r;
+    })
 
 pub erasures-match : ErasuresMatch
 erasures-match =

@@ -1,20 +1,19 @@
 -- Tables of which each entry occurs as often in the one as in the other: a rearrangement carries the one to the other, and the other way round.
 -- Assumes nothing.
-use mathlib.Core.Path.{_≡_, refl, sym, ap, _∙_, subst}
+use mathlib.Core.Path.{_≡_, refl, sym, ap, _∙_}
 use mathlib.Core.Logic.{_⊎_, inl, inr, ⊎-elim}
 use Prim.Native.Nat.{ℕ, zero, suc, _+_, _<_}
-use native.Mathlib.Nat.{lt-irrefl}
 use native.Mathlib.Omega.{arith}
 use lib.Dec.{T, eqb}
 use Rattle.gf2.specs.If.{if_then_else_}
 use Rattle.gf2.proofs.Tests.{eqb-in, eqb-out, if-true, if-false, below-suc}
-use Rattle.flat.specs.Lists.{count}
+use Rattle.flat.specs.Lists.{Permutes, count}
 use Rattle.flat.proofs.Quantifiers.{find, Some, All}
 use Rattle.flat.proofs.Counts.{count-cong, count-more, count-none}
-use Rattle.flat.proofs.Permuting.{Permutes, swapped, swap-second, swap-distinct, swap-below, count-permuted, count-swapped}
+use Rattle.flat.proofs.Permuting.{swapped, swap-second, swap-distinct, swap-below, count-permuted, count-swapped}
 
 -- how often f is c below n
-abbrev pub often : ℕ → (ℕ → ℕ) → ℕ → ℕ
+abbrev often : ℕ → (ℕ → ℕ) → ℕ → ℕ
 often n f c = count n (λ i. eqb (f i) c)
 
 -- π carries a to b
@@ -53,7 +52,7 @@ module _ (n : ℕ) (a b : ℕ → ℕ) (q : ℕ) (l : q < suc n) (e : b q ≡ a 
 
     kept-before : (i : ℕ) → i < n → kept i ≡ ρ i
     unfolding kept
-    kept-before i m = if-false (eqb i n) n (ρ i) (λ t. lt-irrefl n (subst (λ (y : ℕ). y < n) (eqb-out i n t) m))
+    kept-before i m = if-false (eqb i n) n (ρ i) (λ t. omega (arith, eqb-out i n t))
 
     kept-permutes : Permutes (suc n) kept
     kept-permutes = record {
@@ -85,7 +84,8 @@ often-carried zero a b h = (
 often-carried (suc n) a b h = go (find (suc n) (λ i. eqb (b i) (a n))) (often-carried n a)
   where
     go : Some (suc n) (λ i. T (eqb (b i) (a n))) ⊎ All (suc n) (λ i. T (eqb (b i) (a n)) → ⊥)
-        → ((c : ℕ → ℕ) → ((i : ℕ) → i < n → often n a (a i) ≡ often n c (a i)) → (π : ℕ → ℕ) × Carries n a c π) → (π : ℕ → ℕ) × Carries (suc n) a b π
+        → ((c : ℕ → ℕ) → ((i : ℕ) → i < n → often n a (a i) ≡ often n c (a i)) → (π : ℕ → ℕ) × Carries n a c π)
+        → (π : ℕ → ℕ) × Carries (suc n) a b π
     go (inl (q, l, t)) rest =
         let e = eqb-out (b q) (a n) t in
         let (ρ, r) = rest (turned n a b q l e) (λ i m. still n a b q l e (a i) (h i (omega arith))) in

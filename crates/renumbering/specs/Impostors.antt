@@ -1,14 +1,18 @@
--- Wrong readings of document 02's request [8], each told from the right one by two codes. The proofs are those of proofs/Impostors.antt.
+-- Wrong readings of document 02's request [8], each told from the right one by two codes, and what the call answers for two pairs of cards.
+-- The proofs are those of proofs/Impostors.antt.
 -- Assumes nothing.
 use mathlib.Core.Path.{_≡_}
 use mathlib.Core.Bool.{Bool, true, false, _&&_}
-use mathlib.Core.List.{[], _∷_}
+use mathlib.Core.List.{List, [], _∷_}
+use Prim.Native.Nat.{ℕ, _-_}
 use lib.Dec.{eqb}
 use Rattle.gf2.specs.Sets.{first, over}
 use Rattle.flat.specs.Lists.{every, sum, same, member}
 use Rattle.flat.specs.Cards.{Code, code, column}
 use Rattle.flat.specs.Erasures.{vector}
 use Rattle.flat.specs.Alike.{alike}
+use Rattle.flat.specs.Faults.{accepted, alikeReport}
+use Rattle.renumbering.specs.Renumbering.{Renumbering}
 
 -- the same counts, and something else of the columns
 unfoldable pub withCounts : (Code → Code → Bool) → Code → Code → Bool
@@ -52,7 +56,7 @@ NotBySums =
     let B = code 3 2 (2 ∷ 5 ∷ []) in
     (withCounts sameSums A B ≡ true) × (alike A B ≡ false)
 
--- ---- equal columns, place by place
+-- ---- columns compared place by place
 
 unfoldable pub sameColumns : Code → Code → Bool
 unfolding same
@@ -64,3 +68,20 @@ NotByPlaces =
     let A = code 4 3 (7 ∷ 11 ∷ 13 ∷ []) in
     let B = code 4 3 (13 ∷ 7 ∷ 11 ∷ []) in
     (withCounts sameColumns A B ≡ false) × (alike A B ≡ true)
+
+-- ---- only one renumbering
+
+-- Equal columns may be exchanged, or not: both carry C4 to itself.
+abbrev pub NotOne : Type 0
+NotOne =
+    let C = code 1 2 (1 ∷ 1 ∷ []) in
+    Renumbering C C (λ j. 1 - j) × Renumbering C C (λ j. j)
+
+-- ---- cards
+
+-- C1's card with its columns in another order, and with another column.
+abbrev pub Answers : Type 0
+Answers =
+    let card : List ℕ = 4 ∷ 3 ∷ 7 ∷ 0 ∷ 11 ∷ 0 ∷ 13 ∷ 0 ∷ [] in
+    (alikeReport card (4 ∷ 3 ∷ 13 ∷ 0 ∷ 7 ∷ 0 ∷ 11 ∷ 0 ∷ []) ≡ accepted (1 ∷ []))
+    × (alikeReport card (4 ∷ 3 ∷ 7 ∷ 0 ∷ 11 ∷ 0 ∷ 14 ∷ 0 ∷ []) ≡ accepted (0 ∷ []))

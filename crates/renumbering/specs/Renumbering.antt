@@ -6,15 +6,14 @@ use Prim.Native.Nat.{ℕ, _+_, _-_, _<_}
 use lib.Dec.{eqb, ltb}
 use Rattle.gf2.specs.If.{if_then_else_}
 use Rattle.gf2.specs.Sets.{has}
-use Rattle.flat.specs.Lists.{some, setOf}
+use Rattle.flat.specs.Lists.{some, setOf, Permutes}
 use Rattle.flat.specs.Cards.{Code, disks, column}
 
--- k and m are equal, and π rearranges the columns of A into those of B: parity disk k + j of A is parity disk k + π j of B, and no two are one
+-- k and m are equal, and π rearranges the columns of A into those of B: parity disk k + j of A becomes parity disk k + π j of B
 pub record Renumbering (A B : Code) (π : ℕ → ℕ) : Type 0 where
   pub same-k : A .k ≡ B .k
   pub same-m : A .m ≡ B .m
-  pub below : (j : ℕ) → j < A .m → π j < A .m
-  pub distinct : (i j : ℕ) → i < A .m → j < A .m → π i ≡ π j → i ≡ j
+  pub permutes : Permutes (A .m) π
   pub carries : (j : ℕ) → j < A .m → column B (π j) ≡ column A j
 
 -- disk d after the parity disks are renumbered: a data disk stays

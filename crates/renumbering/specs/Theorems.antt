@@ -1,11 +1,13 @@
 -- What is proved of cards that are alike, in plain words above each statement. The proofs are those of proofs/.
 -- Assumes nothing.
 use mathlib.Core.Path.{_≡_}
-use mathlib.Core.Logic.{_↔_}
+use mathlib.Core.Logic.{_≢_, _↔_}
 use mathlib.Core.List.{List, [], _∷_, map}
 use Prim.Native.Nat.{ℕ, _<_}
 use lib.Dec.{T}
 use lib.ListN.{length, getD}
+use Rattle.gf2.specs.Sets.{has}
+use Rattle.flat.specs.Lists.{Permutes}
 use Rattle.flat.specs.Cards.{Code, codeOf, disks}
 use Rattle.flat.specs.Strips.{byteOf, holds}
 use Rattle.flat.specs.Erasures.{erasures, vector}
@@ -36,12 +38,12 @@ pub record Articles : Type 0 where
 
 -- ---- what a renumbering does
 
--- The disks interchange: each disk's place is a disk of the other code, no two have one place, and there stands what the disk holds, whatever
--- the data disks hold, bits or bytes.
+-- The disks interchange: each disk goes to a place of its own, there stands what it holds, whatever the data disks hold, bits or bytes, and a
+-- set's disks go there with it.
 pub record Interchange (A B : Code) (π : ℕ → ℕ) : Type 0 where
-  pub below : (d : ℕ) → d < disks A → place A π d < disks B
-  pub distinct : (d e : ℕ) → d < disks A → e < disks A → place A π d ≡ place A π e → d ≡ e
+  pub permutes : Permutes (disks A) (place A π)
   pub same : (v : ℕ → ℕ) (d : ℕ) → d < disks A → holds B v (place A π d) ≡ holds A v d
+  pub sets : (S d : ℕ) → d < disks A → has (renumbered A π S) (place A π d) ≡ has S d
 
 abbrev pub DisksInterchange : Type 0
 DisksInterchange = (A B : Code) (π : ℕ → ℕ) → Renumbering A B π → Interchange A B π
@@ -54,30 +56,40 @@ ErasuresMatch =
 
 -- ---- the calls
 
--- Of two cards, with such a renumbering: the lister answers both alike, with one vector; whatever it writes for them, into any two slices that
--- it accepts, there are as many entries, and entry e of the second card is that of the first, renumbered; and the encoder makes of the same data
--- strips the same strips, at their new places.
+-- Of two cards, with such a renumbering: the lister gives the same answer for both, and the same vector; of what it writes for them, into any two
+-- slices that it accepts, entry e of the second card is that of the first, renumbered, and there are as many; the encoder gives the same answer
+-- for both, and makes of the same data strips the same strips, each at its disk's new place.
 pub record Matched (first second : List ℕ) (π : ℕ → ℕ) : Type 0 where
   pub answers : (n : ℕ) → erasuresReport second n ≡ erasuresReport first n
   pub vectors : (n : ℕ) → erasuresVector second n ≡ erasuresVector first n
-  pub lists : (slice other : List ℕ) (count number : ℕ)
-      → erasuresReport first (length slice) ≡ accepted (count ∷ []) → erasuresReport second (length other) ≡ accepted (number ∷ [])
-      → (number ≡ count)
-      × ((e : ℕ) → e < count → getD (erasuresSlice second other) e 0 ≡ renumbered (codeOf first) π (getD (erasuresSlice first slice) e 0))
-  pub strips : (L t d : ℕ) (stripe : List ℕ) → encodeReport first L (length stripe) ≡ accepted [] → t < L → d < disks (codeOf first)
-      → byteOf L (encodeStripe second L stripe) t (place (codeOf first) π d) ≡ byteOf L (encodeStripe first L stripe) t d
+  pub lists : (slice other : List ℕ) (c d : ℕ)
+      → erasuresReport first (length slice) ≡ accepted (c ∷ []) → erasuresReport second (length other) ≡ accepted (d ∷ [])
+      → (d ≡ c)
+      × ((e : ℕ) → e < c → getD (erasuresSlice second other) e 0 ≡ renumbered (codeOf first) π (getD (erasuresSlice first slice) e 0))
+  pub encodes : (L n : ℕ) → encodeReport second L n ≡ encodeReport first L n
+  pub strips : (L t d : ℕ) (stripe other : List ℕ)
+      → encodeReport first L (length stripe) ≡ accepted [] → length other ≡ length stripe
+      → t < L → ((i : ℕ) → i < codeOf first .k → byteOf L other t i ≡ byteOf L stripe t i) → d < disks (codeOf first)
+      → byteOf L (encodeStripe second L other) t (place (codeOf first) π d) ≡ byteOf L (encodeStripe first L stripe) t d
 
--- Wherever the call finds two cards alike, both are accepted, some renumbering carries the one to the other, and for each such renumbering they match.
+-- a card that is accepted
+abbrev pub Read : List ℕ → Type 0
+Read card = (k : ℕ) × (m : ℕ) × (cardReport card ≡ accepted (k ∷ m ∷ []))
+
+-- Both cards are accepted, some renumbering carries the one to the other, and for each that does they match.
 pub record FoundAlike (first second : List ℕ) : Type 0 where
-  pub read : (k : ℕ) × (m : ℕ) × (cardReport first ≡ accepted (k ∷ m ∷ [])) × (cardReport second ≡ accepted (k ∷ m ∷ []))
-  pub some : (π : ℕ → ℕ) × Renumbering (codeOf first) (codeOf second) π
-  pub each : (π : ℕ → ℕ) → Renumbering (codeOf first) (codeOf second) π → Matched first second π
+  pub read : Read first × Read second
+  pub carried : (π : ℕ → ℕ) × Renumbering (codeOf first) (codeOf second) π
+  pub matched : (π : ℕ → ℕ) → Renumbering (codeOf first) (codeOf second) π → Matched first second π
 
--- It answers yes or no for every two accepted cards: yes with all of that, and no where there is no renumbering.
+-- What the call answers: the first card's refusal, then the second's; yes exactly where all of that holds, and no exactly where both cards are
+-- accepted and no renumbering carries the one to the other.
+pub record RightAlike (first second : List ℕ) : Type 0 where
+  pub first-refused : cardReport first .number ≢ 0 → alikeReport first second ≡ cardReport first
+  pub second-refused : Read first → cardReport second .number ≢ 0 → alikeReport first second ≡ cardReport second
+  pub yes : (alikeReport first second ≡ accepted (1 ∷ [])) ↔ FoundAlike first second
+  pub no : (alikeReport first second ≡ accepted (0 ∷ []))
+      ↔ (Read first × Read second × ((π : ℕ → ℕ) → Renumbering (codeOf first) (codeOf second) π → ⊥))
+
 abbrev pub AlikeAnswered : Type 0
-AlikeAnswered =
-    (first second : List ℕ)
-    → ((alikeReport first second ≡ accepted (1 ∷ [])) → FoundAlike first second)
-    × ((alikeReport first second ≡ accepted (0 ∷ [])) → (π : ℕ → ℕ) → Renumbering (codeOf first) (codeOf second) π → ⊥)
-    × ((k m : ℕ) (π : ℕ → ℕ) → cardReport first ≡ accepted (k ∷ m ∷ []) → cardReport second ≡ accepted (k ∷ m ∷ [])
-    → Renumbering (codeOf first) (codeOf second) π → alikeReport first second ≡ accepted (1 ∷ []))
+AlikeAnswered = (first second : List ℕ) → RightAlike first second

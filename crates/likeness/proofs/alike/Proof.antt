@@ -98,8 +98,8 @@ decided : (c : tie.After-rearranged)
     (codeIn (dataAt b) (parityAt b) (columnBytes (now (start p .args .second))))
 decided c =
     let b = both c .before .before in
-    columns-decide _ _ _ _ (known (prior b)) _ _ (known2 b) (omega (arith, both c .before .if1 .left)) (omega (arith, both c .if2 .left)) _ _ (c .before .before .columns .ensures)
-    (c .before .columns2 .ensures) _ (c .rearranged .ensures _)
+    columns-decide _ _ _ _ (known (prior b)) _ _ (known2 b) (omega (arith, both c .before .if1 .left)) (omega (arith, both c .if2 .left)) _ _
+    (c .before .before .columns .ensures) (c .before .columns2 .ensures) _ (c .rearranged .ensures _)
 
 returns-3 : tie.Need-returns-3
 unfolding yesNo
