@@ -30,7 +30,9 @@ uint64_t plain_partial_rebuild(struct job *job);
  * bridgecrumb_card_stepped, in its order */
 uint64_t plain_stepped(size_t d, size_t m, size_t k, uint8_t *out, size_t out_len);
 
-/* sorts the columns of each card by qsort and compares them by memcmp, where k and m are equal. Answers as bridgecrumb_alike does for good cards */
-uint64_t plain_alike(const uint8_t *first, size_t first_len, const uint8_t *second, size_t second_len);
+/* Two good cards: both answer as bridgecrumb_alike does. One sorts the columns of each by qsort and compares them by memcmp; the other counts how
+ * often each column of the first stands in both. */
+uint64_t plain_sorted(const uint8_t *first, size_t first_len, const uint8_t *second, size_t second_len);
+uint64_t plain_counted(const uint8_t *first, size_t first_len, const uint8_t *second, size_t second_len);
 
 #endif

@@ -72,9 +72,9 @@ uint64_t bridgecrumb_card_stepped(size_t d, size_t m, size_t k, uint8_t *out, si
 
 /* Takes two cards.
  * The value is 1 where their k and m are equal and their columns are a rearrangement of each other: the same columns, each as often,
- * in any order; else 0. Where it is 1, the parity disks of the one can be renumbered so that each disk holds what the other card's disk of
- * that number holds, and the lists of minimal erasures then match entry for entry. Data disks keep their numbers. Equal vectors are not
- * enough.
+ * in any order; else 0. Where it is 1, the parity disks of the one can be renumbered so that for the same data each disk holds what the
+ * other card's disk of that number holds, and the lists of minimal erasures then match entry for entry. Data disks keep their numbers.
+ * Equal vectors are not enough.
  * Refuses 1 to 5, the first card's before the second's. */
 uint64_t bridgecrumb_alike(const uint8_t *first, size_t first_len, const uint8_t *second, size_t second_len);
 

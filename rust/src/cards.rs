@@ -76,9 +76,9 @@ pub fn write_stepped_card(d: usize, m: usize, k: usize, out: &mut [u8]) -> Resul
 }
 
 /// Takes two cards; answers whether they have the same k and m, and columns that are a rearrangement of each other: the
-/// same columns, each as often, in any order. Then the parity disks of the one can be renumbered so that each disk holds
-/// what the other card's disk of that number holds, and the lists of minimal erasures match entry for entry after it. Data
-/// disks keep their numbers. Equal vectors are not enough.
+/// same columns, each as often, in any order. Then the parity disks of the one can be renumbered so that for the same data
+/// each disk holds what the other card's disk of that number holds, and the lists of minimal erasures match entry for entry
+/// after it. Data disks keep their numbers. Equal vectors are not enough.
 ///
 /// Refuses 1 to 5, the first card's faults before the second's. Writes nothing.
 ///

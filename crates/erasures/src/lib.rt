@@ -1,6 +1,6 @@
 // Which losses of disks are fatal: the list of all minimal erasures with its vector.
 //
-// For the list every byte string and slice is a legal argument. What is answered for which input is said in
+// Every byte string and slice is a legal argument. What is answered for which input is said in
 // flat/specs/Faults.antt.
 ghost use mathlib.Core.Path.{_≡_};
 ghost use mathlib.Core.List.{[]};

@@ -9,7 +9,7 @@ use Rattle.flat.specs.Lists.{count}
 use Rattle.flat.specs.Cards.{Code, column}
 use Rattle.flat.specs.Alike.{occurrences, asOften, rearranged, alike}
 use Rattle.flat.proofs.Quantifiers.{every-in, every-out}
-use Rattle.renumbering.specs.Theorems.{AlikeRenumbers, AlikeOccurrences, OneSide, Articles}
+use Rattle.renumbering.specs.Theorems.{AlikeRenumbers, AlikeOccurrences, OneSide, AlikeEquivalence}
 use Rattle.renumbering.proofs.Matching.{Carries, carried-often, often-carried}
 
 -- each column as often, and every number as often
@@ -84,11 +84,11 @@ alike-occurrences A B = (
   λ (p, q, h). alike-in A B p q (rearranged-in A B h),
 )
 
-pub articles : Articles
-articles = record {
-  itself = λ A. alike-occurrences A A .1 (refl, refl, λ c. refl);
-  turned = λ A B t. let (p, q, h) = alike-occurrences A B .0 t in alike-occurrences B A .1 (sym p, sym q, λ c. sym (h c));
-  third = λ A B C t u. let (p, q, h) = alike-occurrences A B .0 t in
+pub alike-equivalence : AlikeEquivalence
+alike-equivalence = record {
+  reflexive = λ A. alike-occurrences A A .1 (refl, refl, λ c. refl);
+  symmetric = λ A B t. let (p, q, h) = alike-occurrences A B .0 t in alike-occurrences B A .1 (sym p, sym q, λ c. sym (h c));
+  transitive = λ A B C t u. let (p, q, h) = alike-occurrences A B .0 t in
       let (v, w, g) = alike-occurrences B C .0 u in
       alike-occurrences A C .1 (p ∙ v, q ∙ w, λ c. h c ∙ g c);
 }

@@ -163,14 +163,14 @@ alike-answered first second = record {
   second-refused = λ (k, m, p) f. with-accepted first (k ∷ m ∷ []) (λ A. withCard second (λ B. accepted (yesNo (alike A B) ∷ []))) p
       ∙ unless-not (cardReport second) (accepted (yesNo (same first second) ∷ [])) (cardReport second) f;
   yes = (
-    λ e. let (a, b, y) = both first second 1 e in
-        record { read = (a, b); carried = renumbers .0 (said-yes (same first second) y); matched = found first second a b },
-    λ f. answer first second (f .read .0) (f .read .1) true (T-true {b = same first second} (renumbers .1 (f .carried))),
+    λ e. let (a, b, y) = both first second 1 e in (a, b, renumbers .0 (said-yes (same first second) y)),
+    λ (a, b, c). answer first second a b true (T-true {b = same first second} (renumbers .1 c)),
   );
   no = (
     λ e. let (a, b, n) = both first second 0 e in (a, b, λ π r. said-no (same first second) n (renumbers .1 (π, r))),
     λ (a, b, f). answer first second a b false (T-false {b = same first second} (λ t. let (π, r) = renumbers .0 t in f π r)),
   );
+  matched = λ e. let (a, b, _) = both first second 1 e in found first second a b;
 }
   where
     renumbers : T (same first second) ↔ ((π : ℕ → ℕ) × Renumbering (codeOf first) (codeOf second) π)

@@ -4,7 +4,7 @@ use mathlib.Core.Path.{_≡_, refl, sym, ap, _∙_, subst}
 use mathlib.Core.Bool.{Bool, _&&_}
 use mathlib.Core.Logic.{_⊎_, inl, inr, ⊎-elim}
 use mathlib.Core.List.{List}
-use Prim.Native.Nat.{ℕ, _+_, _-_, _<_}
+use Prim.Native.Nat.{ℕ, _+_, _-_, _^_, _<_}
 use native.Mathlib.Omega.{arith}
 use borrow.Author.Tests.{lt-ltb, le-ltb}
 use lib.Dec.{T, eqb}
@@ -15,7 +15,7 @@ use Rattle.flat.specs.Cards.{Code, code, disks}
 use Rattle.flat.specs.Strips.{holds}
 use Rattle.flat.specs.Erasures.{holdsBit}
 use Rattle.flat.specs.Spans.{codeword}
-use Rattle.flat.proofs.Quantifiers.{some-in, some-out, has-set, set-is}
+use Rattle.flat.proofs.Quantifiers.{some-in, some-out, set-lt, has-set, set-is}
 use Rattle.flat.proofs.Counts.{count-cong, size-count}
 use Rattle.flat.proofs.Permuting.{count-permuted, taken}
 use Rattle.flat.proofs.Words.{holds-data, holds-parity, codeword-lt, codeword-bit}
@@ -42,8 +42,8 @@ module _ (k m : ℕ) (us vs : List ℕ) (π : ℕ → ℕ) (r : Renumbering (cod
   unfolding disks
   kind d l = ⊎-elim inl (λ h. inr (d - k, omega arith, omega arith)) (below-or d k)
 
-  to-data : (d : ℕ) → d < k → to d ≡ d
-  unfolding to place
+  pub to-data : (d : ℕ) → d < k → place A π d ≡ d
+  unfolding place
   to-data d l = rw (lt-ltb d k l)
 
   to-parity : (d j : ℕ) → d ≡ k + j → to d ≡ k + π j
@@ -104,6 +104,10 @@ module _ (k m : ℕ) (us vs : List ℕ) (π : ℕ → ℕ) (r : Renumbering (cod
       let a = and-out (has S e) (eqb (to e) (to d)) u in
       subst (λ (x : ℕ). T (has S x)) (to-permutes .distinct e d h l (eqb-out (to e) (to d) (a .1))) (a .0))
       (λ t. some-in (disks A) (λ e. has S e && eqb (to e) (to d)) (d, l, and-in (has S d) (eqb (to d) (to d)) t (eqb-in {a = to d} refl)))
+
+  pub renumbered-lt : (S : ℕ) → renumbered A π S < 2 ^ disks A
+  unfolding renumbered
+  renumbered-lt S = set-lt (disks A) (λ i. some (disks A) (λ e. has S e && eqb (place A π e) i))
 
   pub renumbered-has : (S d : ℕ) → d < disks A → has (renumbered A π S) (place A π d) ≡ has S d
   unfolding disks renumbered among to

@@ -131,7 +131,9 @@ disks-interchange =
     of-counts Interchange
     (λ k m us vs π r. record {
       permutes = codes.to-permutes k m us vs π r;
+      data-stays = codes.to-data k m us vs π r;
       same = codes.holds-same k m us vs π r;
+      inside = codes.renumbered-lt k m us vs π r;
       sets = codes.renumbered-has k m us vs π r;
     })
 

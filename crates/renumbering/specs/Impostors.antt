@@ -4,7 +4,7 @@
 use mathlib.Core.Path.{_≡_}
 use mathlib.Core.Bool.{Bool, true, false, _&&_}
 use mathlib.Core.List.{List, [], _∷_}
-use Prim.Native.Nat.{ℕ, _-_}
+use Prim.Native.Nat.{ℕ, _+_, _-_, _%_}
 use lib.Dec.{eqb}
 use Rattle.gf2.specs.Sets.{first, over}
 use Rattle.flat.specs.Lists.{every, sum, same, member}
@@ -12,7 +12,7 @@ use Rattle.flat.specs.Cards.{Code, code, column}
 use Rattle.flat.specs.Erasures.{vector}
 use Rattle.flat.specs.Alike.{alike}
 use Rattle.flat.specs.Faults.{accepted, alikeReport}
-use Rattle.renumbering.specs.Renumbering.{Renumbering}
+use Rattle.renumbering.specs.Renumbering.{Renumbering, renumbered}
 
 -- the same counts, and something else of the columns
 unfoldable pub withCounts : (Code → Code → Bool) → Code → Code → Bool
@@ -76,6 +76,15 @@ abbrev pub NotOne : Type 0
 NotOne =
     let C = code 1 2 (1 ∷ 1 ∷ []) in
     Renumbering C C (λ j. 1 - j) × Renumbering C C (λ j. j)
+
+-- ---- the other way round
+
+-- C1's columns in another order: parity disks 4, 5 and 6 become 5, 6 and 4, and its first entry, 50, becomes 98. The other way round it would be 82.
+abbrev pub NotInverse : Type 0
+NotInverse =
+    let A = code 4 3 (7 ∷ 11 ∷ 13 ∷ []) in
+    let B = code 4 3 (13 ∷ 7 ∷ 11 ∷ []) in
+    Renumbering A B (λ j. (j + 1) % 3) × (renumbered A (λ j. (j + 1) % 3) 50 ≡ 98) × (renumbered A (λ j. (j + 2) % 3) 50 ≡ 82)
 
 -- ---- cards
 

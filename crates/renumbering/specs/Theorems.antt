@@ -3,7 +3,7 @@
 use mathlib.Core.Path.{_≡_}
 use mathlib.Core.Logic.{_≢_, _↔_}
 use mathlib.Core.List.{List, [], _∷_, map}
-use Prim.Native.Nat.{ℕ, _<_}
+use Prim.Native.Nat.{ℕ, _^_, _<_}
 use lib.Dec.{T}
 use lib.ListN.{length, getD}
 use Rattle.gf2.specs.Sets.{has}
@@ -30,25 +30,27 @@ AlikeOccurrences =
 abbrev pub OneSide : Type 0
 OneSide = (A B : Code) → A .m ≡ B .m → asOften A B ≡ rearranged A B
 
--- So codes fall into articles: each is alike to itself, alike either way round, and two that are alike to a third are alike.
-pub record Articles : Type 0 where
-  pub itself : (A : Code) → T (alike A A)
-  pub turned : (A B : Code) → T (alike A B) → T (alike B A)
-  pub third : (A B C : Code) → T (alike A B) → T (alike B C) → T (alike A C)
+-- So it is an equivalence, and codes fall into articles by it.
+pub record AlikeEquivalence : Type 0 where
+  pub reflexive : (A : Code) → T (alike A A)
+  pub symmetric : (A B : Code) → T (alike A B) → T (alike B A)
+  pub transitive : (A B C : Code) → T (alike A B) → T (alike B C) → T (alike A C)
 
 -- ---- what a renumbering does
 
--- The disks interchange: each disk goes to a place of its own, there stands what it holds, whatever the data disks hold, bits or bytes, and a
--- set's disks go there with it.
+-- The disks interchange: each disk goes to a place of its own, a data disk to its own; there stands what it holds, whatever the data disks hold,
+-- bits or bytes; and a set becomes a set of the code's disks, those at the places of its own.
 pub record Interchange (A B : Code) (π : ℕ → ℕ) : Type 0 where
   pub permutes : Permutes (disks A) (place A π)
+  pub data-stays : (d : ℕ) → d < A .k → place A π d ≡ d
   pub same : (v : ℕ → ℕ) (d : ℕ) → d < disks A → holds B v (place A π d) ≡ holds A v d
+  pub inside : (S : ℕ) → renumbered A π S < 2 ^ disks A
   pub sets : (S d : ℕ) → d < disks A → has (renumbered A π S) (place A π d) ≡ has S d
 
 abbrev pub DisksInterchange : Type 0
 DisksInterchange = (A B : Code) (π : ℕ → ℕ) → Renumbering A B π → Interchange A B π
 
--- The lists of minimal erasures match entry for entry after it, and the vectors are equal.
+-- After a renumbering the lists of minimal erasures match entry for entry, and the vectors are equal.
 abbrev pub ErasuresMatch : Type 0
 ErasuresMatch =
     (A B : Code) (π : ℕ → ℕ) → Renumbering A B π
@@ -76,20 +78,16 @@ pub record Matched (first second : List ℕ) (π : ℕ → ℕ) : Type 0 where
 abbrev pub Read : List ℕ → Type 0
 Read card = (k : ℕ) × (m : ℕ) × (cardReport card ≡ accepted (k ∷ m ∷ []))
 
--- Both cards are accepted, some renumbering carries the one to the other, and for each that does they match.
-pub record FoundAlike (first second : List ℕ) : Type 0 where
-  pub read : Read first × Read second
-  pub carried : (π : ℕ → ℕ) × Renumbering (codeOf first) (codeOf second) π
-  pub matched : (π : ℕ → ℕ) → Renumbering (codeOf first) (codeOf second) π → Matched first second π
-
--- What the call answers: the first card's refusal, then the second's; yes exactly where all of that holds, and no exactly where both cards are
--- accepted and no renumbering carries the one to the other.
+-- What the call answers: the first card's refusal, then the second's; yes exactly where both cards are accepted and some renumbering carries the
+-- first to the second, and no exactly where both are accepted and none does. Where it answers yes, the cards match by each that does.
 pub record RightAlike (first second : List ℕ) : Type 0 where
   pub first-refused : cardReport first .number ≢ 0 → alikeReport first second ≡ cardReport first
   pub second-refused : Read first → cardReport second .number ≢ 0 → alikeReport first second ≡ cardReport second
-  pub yes : (alikeReport first second ≡ accepted (1 ∷ [])) ↔ FoundAlike first second
+  pub yes : (alikeReport first second ≡ accepted (1 ∷ []))
+      ↔ (Read first × Read second × ((π : ℕ → ℕ) × Renumbering (codeOf first) (codeOf second) π))
   pub no : (alikeReport first second ≡ accepted (0 ∷ []))
       ↔ (Read first × Read second × ((π : ℕ → ℕ) → Renumbering (codeOf first) (codeOf second) π → ⊥))
+  pub matched : alikeReport first second ≡ accepted (1 ∷ []) → (π : ℕ → ℕ) → Renumbering (codeOf first) (codeOf second) π → Matched first second π
 
 abbrev pub AlikeAnswered : Type 0
 AlikeAnswered = (first second : List ℕ) → RightAlike first second
