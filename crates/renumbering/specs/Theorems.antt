@@ -38,8 +38,8 @@ pub record AlikeEquivalence : Type 0 where
 
 -- ---- what a renumbering does
 
--- The disks interchange: each disk goes to a place of its own, a data disk to its own; there stands what it holds, whatever the data disks hold,
--- bits or bytes; and a set becomes a set of the code's disks, those at the places of its own.
+-- The disks interchange: no two go to one place, and a data disk stays; at a disk's place stands what it holds, whatever the data disks hold, bits
+-- or bytes; and a set becomes that of its disks' places.
 pub record Interchange (A B : Code) (π : ℕ → ℕ) : Type 0 where
   pub permutes : Permutes (disks A) (place A π)
   pub data-stays : (d : ℕ) → d < A .k → place A π d ≡ d
