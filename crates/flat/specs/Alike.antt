@@ -11,7 +11,7 @@ unfoldable pub occurrences : Code → ℕ → ℕ
 unfolding count column
 occurrences C c = count (C .m) (λ j. eqb (column C j) c)
 
--- does each column of A stand as often among the columns of B?
+-- does each column of A stand as often among B's columns as among A's own?
 unfoldable pub asOften : Code → Code → Bool
 unfolding every column occurrences
 asOften A B = every (A .m) (λ j. eqb (occurrences A (column A j)) (occurrences B (column A j)))

@@ -1,4 +1,4 @@
--- The words that the definitions are written in: tests over the numbers below a bound, lists made from numbers, and bytes.
+-- The words that the definitions are written in: tests over the numbers below a bound and their rearrangements, lists made from numbers, and bytes.
 -- Assumes nothing.
 use mathlib.Core.Path.{_≡_}
 use mathlib.Core.Bool.{Bool, true, false, _&&_, _||_}

@@ -52,10 +52,14 @@ module _ (own other : List ℕ) (c i balance : ℕ) (h : Balance own other c i b
 
 -- ---- the columns gone through
 
--- does each of the first n columns stand as often among the m of the other card as among the m of its own?
+-- does column j stand as often among the m of the other card as among the m of its own?
+abbrev same : ℕ → List ℕ → List ℕ → ℕ → Bool
+same m own other j = eqb (standing m own (field (2 * j) 2 own)) (standing m other (field (2 * j) 2 own))
+
+-- and each of the first n columns?
 unfoldable pub standAsOften : ℕ → ℕ → List ℕ → List ℕ → Bool
 unfolding every standing
-standAsOften n m own other = every n (λ j. eqb (standing m own (field (2 * j) 2 own)) (standing m other (field (2 * j) 2 own)))
+standAsOften n m own other = every n (same m own other)
 
 pub often-none : (m : ℕ) (own other : List ℕ) → T (standAsOften 0 m own other)
 unfolding standAsOften every
@@ -63,21 +67,18 @@ often-none m own other = tt
 
 -- the balance b of column j
 module _ (m : ℕ) (own other : List ℕ) (j c b : ℕ) (e : c ≡ field (2 * j) 2 own) (h : Balance own other c m b) where
-  abbrev same : ℕ → Bool
-  same i = eqb (standing m own (field (2 * i) 2 own)) (standing m other (field (2 * i) 2 own))
-
   at-column : Balance own other (field (2 * j) 2 own) m b
   at-column = subst (λ (x : ℕ). Balance own other x m b) e h
 
   pub often-more : T (standAsOften j m own other) → b ≡ 16 → T (standAsOften (j + 1) m own other)
   unfolding standAsOften every
   often-more t f =
-      rw (add-one j) (and-in (every j same) (same j) t (eqb-in {a = standing m own (field (2 * j) 2 own)} (omega (arith, at-column, f))))
+      rw (add-one j) (and-in (every j (same m own other)) (same m own other j) t (eqb-in {a = standing m own (field (2 * j) 2 own)} (omega (arith, at-column, f))))
 
   pub often-fails : (n : ℕ) → j < n → (b ≡ 16 → ⊥) → false ≡ standAsOften n m own other
   unfolding standAsOften
   often-fails n l f =
-      sym (T-false (λ t. f (omega (arith, at-column, eqb-out (standing m own (field (2 * j) 2 own)) _ (every-out n same t j l)))))
+      sym (T-false (λ t. f (omega (arith, at-column, eqb-out (standing m own (field (2 * j) 2 own)) _ (every-out n (same m own other) t j l)))))
 
 -- ---- codes
 
@@ -90,8 +91,7 @@ occurrences-in k m bs c =
 pub stand-rearranged : (k m : ℕ) (bs cs : List ℕ) → standAsOften m m bs cs ≡ rearranged (codeIn k m bs) (codeIn k m cs)
 unfolding standAsOften asOften column
 stand-rearranged k m bs cs =
-    every-cong m (λ j. eqb (standing m bs (field (2 * j) 2 bs)) (standing m cs (field (2 * j) 2 bs)))
-    (λ j. eqb (occurrences A (column A j)) (occurrences B (column A j)))
+    every-cong m (same m bs cs) (λ j. eqb (occurrences A (column A j)) (occurrences B (column A j)))
     (λ j l. ap (λ (c : ℕ). eqb (standing m bs c) (standing m cs c)) (sym (column-at m bs j l))
     ∙ ap₂ eqb (occurrences-in k m bs (column A j)) (occurrences-in k m cs (column A j)))
     ∙ one-side-enough A B refl
