@@ -36,6 +36,9 @@ pub fn undetermined(card: &[u8], set: u32) -> Result<u32, Error> {
 /// the slice's front, smaller size first, then smaller data part (the set number modulo 2^k). Answers
 /// their count and their vector. Entries past the count keep what they had.
 ///
+/// No entry lies inside another, none holds more than m + 1 disks, and whenever two differ, some entry lies within
+/// the disks that belong to just one of them.
+///
 /// Refuses 1 to 5, then 10 where the slice is shorter than the count. A refused call writes nothing.
 ///
 /// ```
@@ -44,6 +47,8 @@ pub fn undetermined(card: &[u8], set: u32) -> Result<u32, Error> {
 /// let told = bridgecrumb::minimal_erasures(&[4, 3, 7, 0, 11, 0, 13, 0], &mut list)?;
 /// assert_eq!(list[..told.count], [50, 67, 84, 37, 104, 25, 14, 113, 102, 23, 90, 43, 60, 77]);
 /// assert_eq!(told.vector[..4], [0, 0, 7, 7]);
+/// // disk 1 is in both 50 and 67; what is in just one of them, 113, is listed
+/// assert!(list[..told.count].contains(&(50 ^ 67)));
 /// # Ok::<(), bridgecrumb::Error>(())
 /// ```
 pub fn minimal_erasures(card: &[u8], out: &mut [u32]) -> Result<Listing, Error> {

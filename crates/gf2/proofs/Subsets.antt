@@ -44,6 +44,9 @@ pub ⊕-out : (a b i : ℕ) → T (has (a ⊕ b) i) → T (has a i) ⊎ T (has b
 pub ⊕-left : (a b i : ℕ) → T (has a i) → (T (has b i) → ⊥) → T (has (a ⊕ b) i)
 ⊕-left a b i m f = has-in (a ⊕ b) i (bit-⊕ a b i ∙ rw (has-out a i m, has-not b i f))
 
+pub ⊕-both : (a b i : ℕ) → T (has (a ⊕ b) i) → T (has a i) → T (has b i) → ⊥
+⊕-both a b i t m n = not-has (a ⊕ b) i (bit-⊕ a b i ∙ rw (has-out a i m, has-out b i n)) t
+
 pub ∩-out : (R S i : ℕ) → T (has (R ∩ S) i) → T (has R i) × T (has S i)
 ∩-out R S i m = go (bit-cases R i) (bit-cases S i)
   where

@@ -1,7 +1,13 @@
 -- The proofs of specs/Theorems.antt.
 -- Assumes nothing.
-use Rattle.gf2.specs.Theorems.{Subset, Extensional, FirstDisks, UnionRows, UnionSpan, SelectLinear, SpanSelected, WithinSpans, WithinIndependent, MinimalIsOneRow, MinimalSize}
-use Rattle.gf2.proofs.Subsets.{⊆-in, ⊆-out, same-disks}
+use mathlib.Core.Path.{subst}
+use mathlib.Core.Logic.{inl, inr, ⊎-elim}
+use Prim.Native.Nat.{ℕ}
+use lib.Dec.{T}
+use Rattle.gf2.specs.Sets.{has}
+use Rattle.gf2.specs.Theorems.{Subset, Extensional, JustOne, FirstDisks, UnionRows, UnionSpan, SelectLinear, SpanSelected, WithinSpans, WithinIndependent, MinimalIsOneRow, MinimalSize}
+use Rattle.gf2.proofs.Xor.{⊕-comm}
+use Rattle.gf2.proofs.Subsets.{⊆-in, ⊆-out, ⊕-out, ⊕-left, ⊕-both, same-disks}
 use Rattle.gf2.proofs.Spans.{at}
 use Rattle.gf2.proofs.Sums.{select-⊕, select-in, in-select}
 use Rattle.gf2.proofs.Elimination as elimination
@@ -14,6 +20,12 @@ subset R S = (⊆-out R S, ⊆-in R S)
 
 pub extensional : Extensional
 extensional = same-disks
+
+pub just-one : JustOne
+just-one R S i = (
+  λ t. ⊎-elim (λ r. inl (r, ⊕-both R S i t r)) (λ s. inr (s, λ r. ⊕-both R S i t r s)) (⊕-out R S i t),
+  ⊎-elim (λ (r, n). ⊕-left R S i r n) (λ (s, n). subst (λ (x : ℕ). T (has x i)) (⊕-comm S R) (⊕-left S R i s n)),
+)
 
 pub first-disks : FirstDisks
 first-disks = first-has

@@ -1,7 +1,7 @@
 -- What gf2 proves about sets, spans and `within`. The proofs are those of proofs/Theorems.antt.
 -- Assumes nothing.
 use mathlib.Core.Path.{_≡_}
-use mathlib.Core.Logic.{_↔_}
+use mathlib.Core.Logic.{_⊎_, _↔_}
 use mathlib.Core.List.{List}
 use Prim.Native.Nat.{ℕ, _+_, _^_, _≤_, _<_}
 use lib.Dec.{T, ltb}
@@ -17,6 +17,11 @@ Subset = (R S : ℕ) → T (R ⊆ S) ↔ ((i : ℕ) → T (has R i) → T (has S
 -- Two sets with the same disks are one.
 abbrev pub Extensional : Type 0
 Extensional = (R S : ℕ) → ((i : ℕ) → has R i ≡ has S i) → R ≡ S
+
+-- A disk is in R ⊕ S where it is in just one of the two.
+abbrev pub JustOne : Type 0
+JustOne =
+    (R S i : ℕ) → T (has (R ⊕ S) i) ↔ ((T (has R i) × (T (has S i) → ⊥)) ⊎ (T (has S i) × (T (has R i) → ⊥)))
 
 -- Disk i is in `first n` where it is below n.
 abbrev pub FirstDisks : Type 0

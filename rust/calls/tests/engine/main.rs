@@ -1,6 +1,7 @@
 //! Every call of the table beside its reference, and what the documents say of single codes.
 
 mod alike;
+mod circuits;
 mod demand3;
 mod drivers;
 mod methods;

@@ -1,0 +1,39 @@
+-- An entry is a minimal codeword. Two codewords' XOR is one, and not 0 where they differ, so that its disks are fatal.
+-- Assumes nothing.
+use mathlib.Core.Path.{_≡_, sym, ap, subst}
+use Prim.Native.Nat.{ℕ}
+use lib.Dec.{T}
+use Rattle.gf2.specs.Sets.{_⊕_}
+use Rattle.gf2.specs.Span.{Minimal}
+use Rattle.gf2.proofs.Xor.{⊕-cancel}
+use Rattle.gf2.proofs.Subsets.{⊆-refl}
+use Rattle.gf2.proofs.Spans.{sum-in}
+use Rattle.flat.specs.Lists.{member}
+use Rattle.flat.specs.Cards.{Code, codeOf}
+use Rattle.flat.specs.Erasures.{erasures}
+use Rattle.flat.specs.Spans.{rows}
+use Rattle.flat.proofs.Cards.{accepted-card}
+use Rattle.flat.proofs.Fatal.{fatal-inside, minimal-out}
+use Rattle.flat.proofs.ErasuresListed.{erasures-out, fatal-listed}
+use Rattle.flat.proofs.Vector.{entry-sizes}
+use Rattle.demands.proofs.Demand3.{written}
+use Rattle.circuits.specs.Circuits.{Circuits}
+use Rattle.circuits.specs.Theorems.{ErasuresAreCircuits, EntriesAreCircuits}
+
+pub erasures-are-circuits : ErasuresAreCircuits
+erasures-are-circuits C =
+    let minimal : (R : ℕ) → T (member R (erasures C)) → Minimal (rows C) R = λ R r. minimal-out C R (erasures-out C R r .1) in
+    record {
+      apart = λ R S r s inside. minimal S s .alone R (minimal R r .word) (minimal R r .nonzero) inside;
+      small = λ R r. entry-sizes C R r .1;
+      third = λ R S r s differ.
+          fatal-listed C (R ⊕ S) .0
+          (fatal-inside C (R ⊕ S) .1
+          (R ⊕ S, sum-in (rows C) R S (minimal R r .word) (minimal S s .word), λ e. differ (⊕-cancel R S e), ⊆-refl (R ⊕ S)));
+    }
+
+pub entries-are-circuits : EntriesAreCircuits
+entries-are-circuits card slice k m ok fits =
+    let C = codeOf card in
+    let same : C .m ≡ m = ap (λ (D : Code). D .m) (accepted-card card k m ok .is) in
+    subst (Circuits m) (sym (written card k m ok slice fits)) (subst (λ (n : ℕ). Circuits n (erasures C)) same (erasures-are-circuits C))

@@ -1,0 +1,27 @@
+-- Lists that are not the lister's, and the claim that each fails, at document 01's worked codes. The proofs are those of proofs/Impostors.antt.
+-- Assumes nothing.
+use mathlib.Core.Path.{_≡_}
+use mathlib.Core.Bool.{true}
+use Prim.Native.Nat.{ℕ}
+use Rattle.gf2.specs.Sets.{_⊕_}
+use Rattle.flat.specs.Lists.{member}
+use Rattle.flat.specs.Erasures.{erasures}
+use Rattle.worked.specs.Table.{C1, C3, C4}
+use Rattle.worked.specs.Impostors.{everyWord, upToM}
+use Rattle.circuits.specs.Circuits.{NoneInside, NoneLarger, TwoMakeThird}
+
+-- With C3's 15 listed, as where every XOR of rows is, 5 lies inside it.
+abbrev pub NotEveryWord : Type 0
+NotEveryWord = NoneInside (everyWord (C3 .of)) → ⊥
+
+-- m in place of m + 1: C4's one entry has m + 1 disks.
+abbrev pub NotUpToM : Type 0
+NotUpToM = NoneLarger (C4 .of .m) (erasures (C4 .of)) → ⊥
+
+-- Of C1's list cut at size m, no entry lies within the disks of just one of 50 and 67.
+abbrev pub NotCut : Type 0
+NotCut = TwoMakeThird (upToM (C1 .of)) → ⊥
+
+-- These disks are 113, and the whole list has that.
+abbrev pub Third : Type 0
+Third = (50 ⊕ 67 ≡ 113) × (member 113 (erasures (C1 .of)) ≡ true)

@@ -1,0 +1,3 @@
+pub mod Circuits
+pub mod Theorems
+pub mod Impostors

@@ -1,0 +1,22 @@
+-- What is proved of the entries, in plain words above each statement. The proofs are those of proofs/Theorems.antt.
+-- Assumes nothing.
+use mathlib.Core.Path.{_≡_}
+use mathlib.Core.List.{List, [], _∷_}
+use Prim.Native.Nat.{ℕ, _≤_}
+use lib.ListN.{length}
+use Rattle.flat.specs.Cards.{Code, codeOf}
+use Rattle.flat.specs.Erasures.{erasures}
+use Rattle.flat.specs.Faults.{accepted, cardReport}
+use Rattle.demands.specs.Demand3.{listed}
+use Rattle.circuits.specs.Circuits.{Circuits}
+
+-- The minimal erasures of every code meet the three claims.
+abbrev pub ErasuresAreCircuits : Type 0
+ErasuresAreCircuits = (C : Code) → Circuits (C .m) (erasures C)
+
+-- For every accepted card, with the m that the card check answers, so do the entries that the lister writes, into any slice at least as long as
+-- their count: those of which `Demand3` speaks.
+abbrev pub EntriesAreCircuits : Type 0
+EntriesAreCircuits =
+    (card slice : List ℕ) (k m : ℕ) → cardReport card ≡ accepted (k ∷ m ∷ []) → length (erasures (codeOf card)) ≤ length slice
+    → Circuits m (listed card slice)
