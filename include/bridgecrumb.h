@@ -93,8 +93,8 @@ uint64_t bridgecrumb_verdict(const uint8_t *card, size_t card_len, uint32_t set)
 /* Takes a card. Writes all minimal erasures into `out`, smaller size first, then smaller data part, and
  * into vector[i - 1] how many hold i disks, for i from 1 to m + 1; its places past m + 1 become 0.
  * The value is the count, which is also the vector's total; `out` past it keeps what it had.
- * No entry lies inside another, none holds more than m + 1 disks, and of two that differ some entry lies within the disks that belong
- * to just one.
+ * No entry lies inside another, none holds more than m + 1 disks, and whenever two differ, some entry lies within the disks that belong
+ * to just one of them.
  * Refuses 1 to 5, then 10. */
 uint64_t bridgecrumb_list(const uint8_t *card, size_t card_len, uint32_t *out, size_t out_len, size_t vector[17]);
 

@@ -1,37 +1,35 @@
--- Each list fails its claim at the entries that its statement names. A list that `Worked` has computed is not computed again.
+-- Each fails its claim at the entries that its statement names. A list that `Worked` has computed is not computed again.
 -- Assumes nothing.
-use mathlib.Core.Path.{_≡_, refl, sym, ap, _∙_, subst}
-use mathlib.Core.Bool.{Bool, true}
-use mathlib.Core.List.{List, []}
-use Prim.Native.Nat.{ℕ, _≤_}
+use mathlib.Core.Path.{_≡_, refl, ap, subst}
+use mathlib.Core.List.{[]}
+use Prim.Native.Nat.{_≤_}
 use native.Mathlib.Omega.{arith}
-use lib.Dec.{T, leb}
+use lib.Dec.{leb}
 use Rattle.gf2.specs.Sets.{size, _⊕_, _⊆_}
 use Rattle.flat.specs.Lists.{member, filter}
-use Rattle.flat.specs.Erasures.{erasures}
 use Rattle.flat.proofs.Members.{In, in-nil, filter-in}
-use Rattle.worked.specs.Table.{C1, C4}
+use Rattle.worked.specs.Table.{C1}
 use Rattle.worked.specs.Impostors.{everyWord, upToM}
 use Rattle.worked.proofs.Worked.{worked}
 use Rattle.circuits.specs.Circuits.{NoneLarger, TwoMakeThird}
-use Rattle.circuits.specs.Impostors.{NotEveryWord, NotUpToM, NotCut, Third}
+use Rattle.circuits.specs.Impostors.{NotEveryWord, LargerThanM, NotUpToM, Third, Refused}
 
 pub not-every-word : NotEveryWord
 unfolding everyWord member _⊆_
-not-every-word claim = let z : _≡_ {A = ℕ} 5 15 = claim 5 15 tt tt tt in omega arith
+not-every-word claim = claim 5 15 tt tt (λ e. omega arith) tt
 
-pub not-up-to-m : NotUpToM
+pub larger-than-m : LargerThanM
 unfolding member size
-not-up-to-m claim = let z : _≤_ 3 2 = subst (NoneLarger 2) (worked .c4 .list) claim 7 tt in omega arith
+larger-than-m claim = let z : _≤_ 3 2 = subst (NoneLarger 2) (worked .c4 .list) claim 7 tt in omega arith
 
 -- C1's list cut at size m
 cut : upToM (C1 .of) ≡ filter (λ S. leb (size S) 3) (C1 .list)
 unfolding upToM
 cut = ap (filter (λ S. leb (size S) 3)) (worked .c1 .list)
 
-pub not-cut : NotCut
+pub not-up-to-m : NotUpToM
 unfolding member _⊆_ _⊕_ filter size
-not-cut claim =
+not-up-to-m claim =
     let list = filter (λ S. leb (size S) 3) (C1 .list) in
     let (Q, listed, inside) = subst TwoMakeThird cut claim 50 67 tt tt (λ e. omega arith) in
     let none : filter (λ S. S ⊆ 113) list ≡ [] = refl in
@@ -40,3 +38,10 @@ not-cut claim =
 pub third : Third
 unfolding member _⊕_
 third = (refl, ap (member 113) (worked .c1 .list))
+
+pub refused : Refused
+refused = (
+  λ m c. not-every-word (c .none-inside),
+  λ c. larger-than-m (c .none-larger),
+  λ m c. not-up-to-m (c .third),
+)

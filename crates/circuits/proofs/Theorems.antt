@@ -24,8 +24,8 @@ pub erasures-are-circuits : ErasuresAreCircuits
 erasures-are-circuits C =
     let minimal : (R : ℕ) → T (member R (erasures C)) → Minimal (rows C) R = λ R r. minimal-out C R (erasures-out C R r .1) in
     record {
-      apart = λ R S r s inside. minimal S s .alone R (minimal R r .word) (minimal R r .nonzero) inside;
-      small = λ R r. entry-sizes C R r .1;
+      none-inside = λ R S r s differ inside. differ (minimal S s .alone R (minimal R r .word) (minimal R r .nonzero) inside);
+      none-larger = λ R r. entry-sizes C R r .1;
       third = λ R S r s differ.
           fatal-listed C (R ⊕ S) .0
           (fatal-inside C (R ⊕ S) .1

@@ -1,7 +1,6 @@
 -- Document 02, [9] "Two entries make a third": three claims about a list of sets, as the request puts them.
--- With them the listed sets are what the field calls the circuits of a binary matroid, here of rank at most m.
+-- As no entry is empty, the first and the third make the entries what the field calls the circuits of a binary matroid.
 -- Assumes nothing.
-use mathlib.Core.Path.{_≡_}
 use mathlib.Core.Logic.{_≢_}
 use mathlib.Core.List.{List}
 use Prim.Native.Nat.{ℕ, _+_, _≤_}
@@ -11,7 +10,7 @@ use Rattle.flat.specs.Lists.{member}
 
 -- no listed set lies inside another
 abbrev pub NoneInside : List ℕ → Type 0
-NoneInside list = (R S : ℕ) → T (member R list) → T (member S list) → T (R ⊆ S) → R ≡ S
+NoneInside list = (R S : ℕ) → T (member R list) → T (member S list) → R ≢ S → T (R ⊆ S) → ⊥
 
 -- none is larger than s
 abbrev pub NoneLarger : ℕ → List ℕ → Type 0
@@ -22,6 +21,6 @@ abbrev pub TwoMakeThird : List ℕ → Type 0
 TwoMakeThird list = (R S : ℕ) → T (member R list) → T (member S list) → R ≢ S → (Q : ℕ) × T (member Q list) × T (Q ⊆ R ⊕ S)
 
 pub record Circuits (m : ℕ) (list : List ℕ) : Type 0 where
-  pub apart : NoneInside list
-  pub small : NoneLarger (m + 1) list
+  pub none-inside : NoneInside list
+  pub none-larger : NoneLarger (m + 1) list
   pub third : TwoMakeThird list

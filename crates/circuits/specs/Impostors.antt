@@ -1,4 +1,4 @@
--- Lists that are not the lister's, and the claim that each fails, at document 01's worked codes. The proofs are those of proofs/Impostors.antt.
+-- Two wrong lists and a wrong bound, and the claim that each fails, at document 01's worked codes. The proofs are those of proofs/Impostors.antt.
 -- Assumes nothing.
 use mathlib.Core.Path.{_≡_}
 use mathlib.Core.Bool.{true}
@@ -8,20 +8,27 @@ use Rattle.flat.specs.Lists.{member}
 use Rattle.flat.specs.Erasures.{erasures}
 use Rattle.worked.specs.Table.{C1, C3, C4}
 use Rattle.worked.specs.Impostors.{everyWord, upToM}
-use Rattle.circuits.specs.Circuits.{NoneInside, NoneLarger, TwoMakeThird}
+use Rattle.circuits.specs.Circuits.{NoneInside, NoneLarger, TwoMakeThird, Circuits}
 
--- With C3's 15 listed, as where every XOR of rows is, 5 lies inside it.
+-- With C3's 15 listed, as it is where every XOR of rows is, 5 lies inside it.
 abbrev pub NotEveryWord : Type 0
 NotEveryWord = NoneInside (everyWord (C3 .of)) → ⊥
 
 -- m in place of m + 1: C4's one entry has m + 1 disks.
-abbrev pub NotUpToM : Type 0
-NotUpToM = NoneLarger (C4 .of .m) (erasures (C4 .of)) → ⊥
+abbrev pub LargerThanM : Type 0
+LargerThanM = NoneLarger (C4 .of .m) (erasures (C4 .of)) → ⊥
 
 -- Of C1's list cut at size m, no entry lies within the disks of just one of 50 and 67.
-abbrev pub NotCut : Type 0
-NotCut = TwoMakeThird (upToM (C1 .of)) → ⊥
+abbrev pub NotUpToM : Type 0
+NotUpToM = TwoMakeThird (upToM (C1 .of)) → ⊥
 
--- These disks are 113, and the whole list has that.
+-- These disks are 113, and the whole list has it.
 abbrev pub Third : Type 0
 Third = (50 ⊕ 67 ≡ 113) × (member 113 (erasures (C1 .of)) ≡ true)
+
+-- So the record refuses them: both lists whatever m is, and C4's own list where m is 1, and not 2.
+abbrev pub Refused : Type 0
+Refused =
+    ((m : ℕ) → Circuits m (everyWord (C3 .of)) → ⊥)
+    × (Circuits 1 (erasures (C4 .of)) → ⊥)
+    × ((m : ℕ) → Circuits m (upToM (C1 .of)) → ⊥)

@@ -2,8 +2,9 @@
 //! looked for among all orders of the parity disks, or made by one; where cards are alike the lists that the engine writes for them match entry for entry
 //! once the parity disks are renumbered so, and data disks keep their numbers.
 
+use crate::listed::listed;
 use crate::worked::worked;
-use bridgecrumb::{alike, encode, minimal_erasures, Listing};
+use bridgecrumb::{alike, encode, Listing};
 use calls::cards::{any_columns, c1, card_of, every_card, repeated_columns};
 use calls::choice::Choice;
 use calls::input::Input;
@@ -22,9 +23,7 @@ struct Listed {
 impl Listed {
     fn of(card: Vec<u8>) -> Listed {
         let (k, _, columns) = read_card(&card).expect("a good card");
-        let mut list = vec![0; 1 << k];
-        let told = minimal_erasures(&card, &mut list).expect("room for all");
-        list.truncate(told.count);
+        let (told, list) = listed(&card);
         Listed { card, k, columns, told, list }
     }
 

@@ -1,19 +1,11 @@
-//! Document 02, request [9]: of the sets that the engine lists no one lies inside another, none is larger than m + 1, and whenever two differ, some
-//! listed set lies within the disks that belong to just one of them. The claims are tried on the list alone, pair by pair.
+//! Document 02, request [9]: of the sets that the engine lists none lies inside another, none is larger than m + 1, and whenever two differ, some listed
+//! set lies within the disks that belong to just one of them. The claims are tried on the list alone, pair by pair.
 
-use bridgecrumb::minimal_erasures;
+use crate::listed::listed;
 use calls::cards::{c1, card_of, every_card, good_card};
 use calls::choice::Choice;
 use std::fs;
 use std::path::Path;
-
-/// What the engine lists for a card, and the card's m.
-fn listed(card: &[u8]) -> (Vec<u32>, u32) {
-    let mut list = vec![0; 1 << card[0]];
-    let told = minimal_erasures(card, &mut list).expect("room for all");
-    list.truncate(told.count);
-    (list, u32::from(card[1]))
-}
 
 fn inside(set: u32, other: u32) -> bool {
     set & !other == 0
@@ -24,6 +16,10 @@ fn pair_holds(list: &[u32], one: u32, other: u32) -> [bool; 2] {
     let apart = !inside(one, other) && !inside(other, one);
     let third = list.iter().any(|&set| inside(set, one ^ other));
     [apart, third]
+}
+
+fn none_larger(list: &[u32], most: u32) -> bool {
+    list.iter().all(|set| set.count_ones() <= most)
 }
 
 fn pairs(list: &[u32]) -> impl Iterator<Item = (u32, u32)> + '_ {
@@ -37,18 +33,24 @@ fn claims(list: &[u32], m: u32) -> [bool; 3] {
         let now = pair_holds(list, one, other);
         [apart && now[0], third && now[1]]
     });
-    [held[0], list.iter().all(|set| set.count_ones() <= m + 1), held[1]]
+    [held[0], none_larger(list, m + 1), held[1]]
+}
+
+fn parities(card: &[u8]) -> u32 {
+    card[1].into()
 }
 
 /// All pairs of entries of each card; prints how many there were.
 fn try_all_pairs(name: &str, cards: &[Vec<u8>]) {
-    let mut tried = 0;
+    let (mut tried, mut overlapping) = (0, 0);
     for card in cards {
-        let (list, m) = listed(card);
-        assert_eq!(claims(&list, m), [true; 3], "{card:?}");
+        let (_, list) = listed(card);
+        assert!(!list.is_empty(), "{card:?}");
+        assert_eq!(claims(&list, parities(card)), [true; 3], "{card:?}");
         tried += pairs(&list).count();
+        overlapping += pairs(&list).filter(|(one, other)| one & other != 0).count();
     }
-    println!("circuits, {name}: {} cards, {tried} pairs of entries", cards.len());
+    println!("circuits, {name}: {} cards, {tried} pairs of entries, {overlapping} overlapping", cards.len());
 }
 
 #[test]
@@ -67,15 +69,15 @@ fn sample_cards() {
     try_all_pairs("samples", &cards);
 }
 
-/// Up to 16 + 16 disks: all entries, and pairs of them by chance, most of which overlap.
+/// Up to 16 + 16 disks: the size of every entry, and pairs of entries by chance, most of which overlap.
 #[test]
 fn any_cards() {
     let mut choice = Choice::named("circuits, any cards");
     let (mut tried, mut overlapping) = (0, 0);
     for _ in 0..400 {
         let card = good_card(&mut choice, 16, 16);
-        let (list, m) = listed(&card);
-        assert!(list.iter().all(|set| set.count_ones() <= m + 1), "{card:?}");
+        let (_, list) = listed(&card);
+        assert!(none_larger(&list, parities(&card) + 1), "{card:?}");
         for _ in 0..100 {
             let (one, other) = (choice.pick(&list), choice.pick(&list));
             if one != other {
@@ -88,10 +90,10 @@ fn any_cards() {
     assert!(tried > 30_000 && overlapping * 2 > tried, "{overlapping} of {tried} pairs overlap: the choice is poor");
 }
 
-/// C1's entries 50 and 67 have disk 1 in common. The disks of just one of them are 113, which is listed, and no smaller set is.
+/// C1's entries 50 and 67 have disk 1 in common. The disks of just one of them are 113, which is listed; no other listed set lies within them.
 #[test]
 fn a_third_by_hand() {
-    let (list, _) = listed(&c1());
+    let (_, list) = listed(&c1());
     assert!(list.contains(&50) && list.contains(&67));
     let within: Vec<u32> = list.into_iter().filter(|&set| inside(set, 50 ^ 67)).collect();
     assert_eq!(within, [113]);
@@ -101,20 +103,20 @@ fn a_third_by_hand() {
 #[test]
 fn bent_lists() {
     // C3 with 15 listed, in which 5 lies, and which has more than m + 1 disks
-    let (list, m) = listed(&card_of(2, 2, &[1, 2]));
-    assert_eq!(claims(&[&list[..], &[15]].concat(), m), [false, false, true]);
+    let (_, list) = listed(&card_of(2, 2, &[1, 2]));
+    assert_eq!(claims(&[&list[..], &[15]].concat(), 2), [false, false, true]);
     // 18 and 36 with no disk in common, and 54, which is both
-    let (list, m) = listed(&card_of(3, 3, &[1, 3, 4]));
+    let (_, list) = listed(&card_of(3, 3, &[1, 3, 4]));
     assert!(list.contains(&18) && list.contains(&36));
-    assert_eq!(claims(&[&list[..], &[54]].concat(), m), [false, true, true]);
-    // C4, whose entry has m + 1 disks, held to m
-    let (list, m) = listed(&card_of(1, 2, &[1, 1]));
-    assert_eq!(claims(&list, m - 1), [true, false, true]);
+    assert_eq!(claims(&[&list[..], &[54]].concat(), 3), [false, true, true]);
+    // C4, whose entry has 3 disks, held to 2
+    let (_, list) = listed(&card_of(1, 2, &[1, 1]));
+    assert_eq!(claims(&list, 1), [true, false, true]);
     // C1 cut at size m, and C1 without each of its entries
-    let (list, m) = listed(&c1());
-    let cut: Vec<u32> = list.iter().copied().filter(|set| set.count_ones() <= m).collect();
-    assert_eq!(claims(&cut, m), [true, true, false]);
+    let (_, list) = listed(&c1());
+    let cut: Vec<u32> = list.iter().copied().filter(|set| set.count_ones() <= 3).collect();
+    assert_eq!(claims(&cut, 3), [true, true, false]);
     for at in 0..list.len() {
-        assert_eq!(claims(&[&list[..at], &list[at + 1..]].concat(), m), [true, true, false], "without {}", list[at]);
+        assert_eq!(claims(&[&list[..at], &list[at + 1..]].concat(), 3), [true, true, false], "without {}", list[at]);
     }
 }

@@ -6,6 +6,7 @@
 //! call's set holds it; an entry of the engine's list inside the set holds it; it is lost and has no entry of the engine's
 //! equations among the survivors; the partial rebuild's answer holds it.
 
+use crate::listed::listed;
 use bridgecrumb::Error;
 use calls::cards::{every_card, good_card};
 use calls::choice::Choice;
@@ -20,9 +21,8 @@ struct Lists {
 
 impl Lists {
     fn of(card: &[u8], n: usize) -> Lists {
+        let (_, erasures) = listed(card);
         let mut slice = vec![0; 1 << 16];
-        let count = bridgecrumb::minimal_erasures(card, &mut slice).unwrap().count;
-        let erasures = slice[..count].to_vec();
         let mut equations = Vec::new();
         for disk in 0..n {
             let count = bridgecrumb::equations(card, disk, &mut slice).unwrap();

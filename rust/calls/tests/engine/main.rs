@@ -4,6 +4,7 @@ mod alike;
 mod circuits;
 mod demand3;
 mod drivers;
+mod listed;
 mod methods;
 mod partial;
 mod round_trips;

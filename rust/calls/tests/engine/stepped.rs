@@ -1,8 +1,9 @@
 //! Document 02, request [7]: which three numbers make a card, which card they make, and its distance by the engine's own lister. The parity sets
 //! and the cards were worked out by hand.
 
+use crate::listed::listed;
 use crate::worked::worked;
-use bridgecrumb::{minimal_erasures, read_card, write_card, write_stepped_card, Card};
+use bridgecrumb::{read_card, write_card, write_stepped_card, Card};
 use calls::cards::card_of;
 use calls::input::Input;
 use calls::lent::{Lent, Place};
@@ -116,9 +117,7 @@ fn parity_sets_in_order() {
 fn distances() {
     each_card(|family, sets, card| {
         let (d, k) = (family.d, sets.len());
-        let mut list = vec![0; 1 << k];
-        let told = minimal_erasures(card, &mut list).expect("a good card");
-        list.truncate(told.count);
+        let (told, list) = listed(card);
         assert_eq!(list.iter().map(|set| set.count_ones() as usize).min(), Some(d), "{card:?}");
         assert!(list.contains(&(1 | sets[0] << k)), "{card:?}");
         assert_eq!(told.vector.iter().position(|&count| count != 0), Some(d - 1), "{card:?}");
