@@ -1,13 +1,14 @@
 -- Each fails its claim at the entries that its statement names. A list that `Worked` has computed is not computed again.
 -- Assumes nothing.
 use mathlib.Core.Path.{_≡_, refl, ap, subst}
-use mathlib.Core.List.{[]}
-use Prim.Native.Nat.{_≤_}
+use mathlib.Core.List.{[], _∷_}
+use Prim.Native.Nat.{ℕ, _+_, _≤_}
 use native.Mathlib.Omega.{arith}
 use lib.Dec.{leb}
-use Rattle.gf2.specs.Sets.{size, _⊕_, _⊆_}
+use lib.Count.{ones-ones}
+use Rattle.gf2.specs.Sets.{size, first, _⊕_, _⊆_}
 use Rattle.flat.specs.Lists.{member, filter}
-use Rattle.flat.proofs.Members.{In, in-nil, filter-in}
+use Rattle.flat.proofs.Members.{In, in-head, in-nil, filter-in}
 use Rattle.worked.specs.Table.{C1}
 use Rattle.worked.specs.Impostors.{everyWord, upToM}
 use Rattle.worked.proofs.Worked.{worked}
@@ -39,9 +40,14 @@ pub third : Third
 unfolding member _⊕_
 third = (refl, ap (member 113) (worked .c1 .list))
 
+-- one set that is too large
+too-large : (m : ℕ) → NoneLarger (m + 1) (first (m + 2) ∷ []) → ⊥
+unfolding first size
+too-large m claim = let S = first (m + 2) in omega (arith, claim S (in-head {x = S} [] refl), ones-ones (m + 2))
+
 pub refused : Refused
 refused = (
   λ m c. not-every-word (c .none-inside),
-  λ c. larger-than-m (c .none-larger),
+  λ m c. too-large m (c .none-larger),
   λ m c. not-up-to-m (c .third),
 )

@@ -20,6 +20,7 @@ NoneLarger s list = (R : ℕ) → T (member R list) → size R ≤ s
 abbrev pub TwoMakeThird : List ℕ → Type 0
 TwoMakeThird list = (R S : ℕ) → T (member R list) → T (member S list) → R ≢ S → (Q : ℕ) × T (member Q list) × T (Q ⊆ R ⊕ S)
 
+-- all three, of a list for a code with m parity disks
 pub record Circuits (m : ℕ) (list : List ℕ) : Type 0 where
   pub none-inside : NoneInside list
   pub none-larger : NoneLarger (m + 1) list

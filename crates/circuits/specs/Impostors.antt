@@ -2,8 +2,9 @@
 -- Assumes nothing.
 use mathlib.Core.Path.{_≡_}
 use mathlib.Core.Bool.{true}
-use Prim.Native.Nat.{ℕ}
-use Rattle.gf2.specs.Sets.{_⊕_}
+use mathlib.Core.List.{[], _∷_}
+use Prim.Native.Nat.{ℕ, _+_}
+use Rattle.gf2.specs.Sets.{first, _⊕_}
 use Rattle.flat.specs.Lists.{member}
 use Rattle.flat.specs.Erasures.{erasures}
 use Rattle.worked.specs.Table.{C1, C3, C4}
@@ -26,9 +27,9 @@ NotUpToM = TwoMakeThird (upToM (C1 .of)) → ⊥
 abbrev pub Third : Type 0
 Third = (50 ⊕ 67 ≡ 113) × (member 113 (erasures (C1 .of)) ≡ true)
 
--- So the record refuses them: both lists whatever m is, and C4's own list where m is 1, and not 2.
+-- So the record refuses both lists, whatever m is, and for every m a list whose one set has m + 2 disks.
 abbrev pub Refused : Type 0
 Refused =
     ((m : ℕ) → Circuits m (everyWord (C3 .of)) → ⊥)
-    × (Circuits 1 (erasures (C4 .of)) → ⊥)
+    × ((m : ℕ) → Circuits m (first (m + 2) ∷ []) → ⊥)
     × ((m : ℕ) → Circuits m (upToM (C1 .of)) → ⊥)
