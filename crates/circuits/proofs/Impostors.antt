@@ -1,7 +1,7 @@
 -- Each fails its claim at the entries that its statement names. A list that `Worked` has computed is not computed again.
 -- Assumes nothing.
 use mathlib.Core.Path.{_≡_, refl, ap, subst}
-use mathlib.Core.List.{[], _∷_}
+use mathlib.Core.List.{[]}
 use Prim.Native.Nat.{ℕ, _+_, _≤_}
 use native.Mathlib.Omega.{arith}
 use lib.Dec.{leb}
@@ -40,14 +40,13 @@ pub third : Third
 unfolding member _⊕_
 third = (refl, ap (member 113) (worked .c1 .list))
 
--- one set that is too large
-too-large : (m : ℕ) → NoneLarger (m + 1) (first (m + 2) ∷ []) → ⊥
+size-first : (n : ℕ) → size (first n) ≡ n
 unfolding first size
-too-large m claim = let S = first (m + 2) in omega (arith, claim S (in-head {x = S} [] refl), ones-ones (m + 2))
+size-first = ones-ones
 
 pub refused : Refused
 refused = (
   λ m c. not-every-word (c .none-inside),
-  λ m c. too-large m (c .none-larger),
+  λ m c. omega (arith, c .none-larger (first (m + 2)) (in-head [] refl), size-first (m + 2)),
   λ m c. not-up-to-m (c .third),
 )

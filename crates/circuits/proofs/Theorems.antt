@@ -2,6 +2,7 @@
 -- Assumes nothing.
 use mathlib.Core.Path.{_≡_, sym, ap, subst}
 use Prim.Native.Nat.{ℕ}
+use native.Mathlib.Omega.{arith}
 use lib.Dec.{T}
 use Rattle.gf2.specs.Sets.{_⊕_}
 use Rattle.gf2.specs.Span.{Minimal}
@@ -25,7 +26,7 @@ erasures-are-circuits C =
     let minimal : (R : ℕ) → T (member R (erasures C)) → Minimal (rows C) R = λ R r. minimal-out C R (erasures-out C R r .1) in
     record {
       none-inside = λ R S r s differ inside. differ (minimal S s .alone R (minimal R r .word) (minimal R r .nonzero) inside);
-      none-larger = λ R r. entry-sizes C R r .1;
+      none-larger = λ R r. omega (arith, entry-sizes C R r);
       third = λ R S r s differ.
           fatal-listed C (R ⊕ S) .0
           (fatal-inside C (R ⊕ S) .1
