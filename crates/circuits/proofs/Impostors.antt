@@ -1,19 +1,21 @@
 -- Each fails its claim at the entries that its statement names. A list that `Worked` has computed is not computed again.
 -- Assumes nothing.
 use mathlib.Core.Path.{_≡_, refl, ap, subst}
-use mathlib.Core.List.{[]}
+use mathlib.Core.Logic.{⊎-elim}
+use mathlib.Core.List.{[], _∷_}
 use Prim.Native.Nat.{ℕ, _+_, _≤_}
 use native.Mathlib.Omega.{arith}
 use lib.Dec.{leb}
 use lib.Count.{ones-ones}
 use Rattle.gf2.specs.Sets.{size, first, _⊕_, _⊆_}
 use Rattle.flat.specs.Lists.{member, filter}
-use Rattle.flat.proofs.Members.{In, in-head, in-nil, filter-in}
+use Rattle.flat.proofs.Members.{In, in-head, in-tail, in-cons, in-nil, filter-in}
 use Rattle.worked.specs.Table.{C1}
 use Rattle.worked.specs.Impostors.{everyWord, upToM}
 use Rattle.worked.proofs.Worked.{worked}
 use Rattle.circuits.specs.Circuits.{NoneLarger, TwoMakeThird}
-use Rattle.circuits.specs.Impostors.{NotEveryWord, LargerThanM, NotUpToM, Third, Refused}
+use Rattle.circuits.specs.Impostors.{NotEveryWord, LargerThanM, NotUpToM, Third, Refused, NotTwo}
+use Rattle.circuits.proofs.Theorems.{third-is-another}
 
 pub not-every-word : NotEveryWord
 unfolding everyWord member _⊆_
@@ -50,3 +52,9 @@ refused = (
   λ m c. omega (arith, c .none-larger (first (m + 2)) (in-head [] refl), size-first (m + 2)),
   λ m c. not-up-to-m (c .third),
 )
+
+pub not-two : NotTwo
+not-two m R S d differ r s c =
+    let (Q, listed, inside) = c .third R S (in-head (S ∷ []) refl) (in-tail S R (S ∷ []) (in-head [] refl)) differ in
+    let (not-first, not-second) = third-is-another R S Q d r s inside in
+    ⊎-elim not-first (λ t. ⊎-elim not-second (in-nil Q) (in-cons Q S [] t)) (in-cons Q R (S ∷ []) listed)

@@ -2,9 +2,11 @@
 -- Assumes nothing.
 use mathlib.Core.Path.{_≡_}
 use mathlib.Core.Bool.{true}
+use mathlib.Core.Logic.{_≢_}
 use mathlib.Core.List.{[], _∷_}
 use Prim.Native.Nat.{ℕ, _+_}
-use Rattle.gf2.specs.Sets.{first, _⊕_}
+use lib.Dec.{T}
+use Rattle.gf2.specs.Sets.{has, first, _⊕_}
 use Rattle.flat.specs.Lists.{member}
 use Rattle.flat.specs.Erasures.{erasures}
 use Rattle.worked.specs.Table.{C1, C3, C4}
@@ -33,3 +35,7 @@ Refused =
     ((m : ℕ) → Circuits m (everyWord (C3 .of)) → ⊥)
     × ((m : ℕ) → Circuits m (first (m + 2) ∷ []) → ⊥)
     × ((m : ℕ) → Circuits m (upToM (C1 .of)) → ⊥)
+
+-- Nor are any two sets that overlap the whole list: neither of them is the third.
+abbrev pub NotTwo : Type 0
+NotTwo = (m R S d : ℕ) → R ≢ S → T (has R d) → T (has S d) → Circuits m (R ∷ S ∷ []) → ⊥

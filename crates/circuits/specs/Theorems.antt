@@ -1,9 +1,12 @@
 -- What is proved of the entries, in plain words above each statement. The proofs are those of proofs/Theorems.antt.
 -- Assumes nothing.
 use mathlib.Core.Path.{_≡_}
+use mathlib.Core.Logic.{_≢_}
 use mathlib.Core.List.{List, [], _∷_}
 use Prim.Native.Nat.{ℕ, _≤_}
+use lib.Dec.{T}
 use lib.ListN.{length}
+use Rattle.gf2.specs.Sets.{has, _⊕_, _⊆_}
 use Rattle.flat.specs.Cards.{Code, codeOf}
 use Rattle.flat.specs.Erasures.{erasures}
 use Rattle.flat.specs.Faults.{accepted, cardReport}
@@ -20,3 +23,7 @@ abbrev pub EntriesAreCircuits : Type 0
 EntriesAreCircuits =
     (card slice : List ℕ) (k m : ℕ) → cardReport card ≡ accepted (k ∷ m ∷ []) → length (erasures (codeOf card)) ≤ length slice
     → Circuits m (listed card slice)
+
+-- Where two sets overlap, what lies within the disks that belong to just one of them is neither of the two: the third is another entry.
+abbrev pub ThirdIsAnother : Type 0
+ThirdIsAnother = (R S Q d : ℕ) → T (has R d) → T (has S d) → T (Q ⊆ R ⊕ S) → (Q ≢ R) × (Q ≢ S)
