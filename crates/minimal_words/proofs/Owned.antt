@@ -8,7 +8,6 @@ use native.Mathlib.Nat.{lt-irrefl}
 use native.Mathlib.Omega.{arith}
 use lib.Dec.{T, eqb}
 use lib.ListN.{length, getD}
-use lib.Seq.{ext-getD}
 use Rattle.gf2.specs.If.{if_then_else_}
 use Rattle.gf2.specs.Sets.{bit, _⊆_}
 use Rattle.gf2.specs.Span.{InSpan, Independent, select, Minimal}
@@ -19,8 +18,7 @@ use Rattle.gf2.proofs.Subsets.{⊆-out}
 use Rattle.gf2.proofs.Spans.{at}
 use Rattle.gf2.proofs.Sums.{over-bit, over-cong, over-one, select-in, in-select}
 use Rattle.gf2.proofs.OneRow.{one-row}
-use Rattle.flat.specs.Lists.{tabulate}
-use Rattle.flat.proofs.Lists.{length-tabulate, getD-tabulate}
+use Rattle.flat.proofs.Lists.{entries}
 use Rattle.flat.proofs.Rows.{pivots-indep}
 use Rattle.minimal_words.specs.Systematic.{Systematic}
 use Rattle.minimal_words.proofs.Picked.{picked, picked-in, picked-indep, fewer-in, select-picked}
@@ -40,9 +38,7 @@ module _ (n : ℕ) (bs : List ℕ) (s : Systematic n bs) where
 
   pub owned-indep : Independent bs
   owned-indep =
-      subst Independent
-      (ext-getD 0 (tabulate (length bs) (λ i. getD bs i 0)) bs (length-tabulate (length bs) (λ i. getD bs i 0))
-      (λ i l. getD-tabulate (length bs) (λ j. getD bs j 0) i (subst (λ (k : ℕ). i < k) (length-tabulate (length bs) (λ j. getD bs j 0)) l)))
+      subst Independent (entries bs)
       (pivots-indep (length bs) (λ i. getD bs i 0) (s .own) (s .has-own)
       (λ i j l m. s .lacks-other i j (omega arith) m (λ e. lt-irrefl i (subst (λ (k : ℕ). i < k) (sym e) l))))
 

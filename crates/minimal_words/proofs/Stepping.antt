@@ -7,17 +7,17 @@ use Prim.Native.Nat.{ℕ, zero, suc, _+_, _-_, _*_, _/_, _%_, _^_, _<_}
 use native.Mathlib.Nat.{mod-lt, zero-lt-suc}
 use native.Mathlib.Numerals.{add-one}
 use native.Mathlib.Omega.{arith}
-use lib.Bits.{bitXor, xor-step, xor-self}
+use lib.Bits.{bitXor, xor-step, xor-self, xor-shifted}
 use lib.Count.{trailingZeros}
 use lib.ListN.{length, getD}
-use lib.Pow.{shl-exact}
+use lib.Pow.{pow-pos}
 use Rattle.gf2.specs.Sets.{_⊕_}
 use Rattle.gf2.specs.Span.{select}
 use Rattle.gf2.specs.Within.{lowest}
 use Rattle.gf2.proofs.Bits.{two-cases, half-lt, lt-pow}
 use Rattle.gf2.proofs.Xor.{⊕-comm, ⊕-back}
 use Rattle.gf2.proofs.Subsets.{lowest-trailing, lowest-lt}
-use Rattle.gf2.proofs.Sums.{over-none, select-⊕}
+use Rattle.gf2.proofs.Sums.{over-none, over-disk, select-⊕}
 use Rattle.flat.specs.Lists.{tabulate}
 use Rattle.flat.proofs.Lists.{getD-tabulate}
 use Rattle.minimal_words.specs.Listed.{stepOf}
@@ -62,13 +62,17 @@ word-next rows steps x i w f h e s q =
     ap₂ bitXor q (ap (λ (l : List ℕ). getD l i 0) s ∙ getD-tabulate 16 (stepOf rows) i l ∙ ap (stepOf rows) e ∙ ap (select rows) (sym (change x f)))
     ∙ sym (select-⊕ rows (x - 1) (x ⊕ (x - 1))) ∙ ap (select rows) (ap (λ (y : ℕ). (x - 1) ⊕ y) (⊕-comm x (x - 1)) ∙ ⊕-back (x - 1) x)
 
--- the code's number of all bits up to t, and what it selects
-pub bits-to : (t : ℕ) → t < 16 → (2 * 2 ^ t) % 2 ^ 32 ≡ 2 ^ (t + 1)
-bits-to t h =
-    let e : 2 ^ (t + 1) ≡ 2 ^ suc t = ap (λ (i : ℕ). 2 ^ i) (add-one t) in
-    let n : 2 * 2 ^ t ≡ 2 ^ (t + 1) = omega arith in
-    shl-exact {a = 2} 2 t 32 (omega arith) (omega arith) ∙ n
+-- the XOR of the rows before t, and with row t
+pub steps-none : (rows : List ℕ) → 0 ≡ select rows (2 ^ 0 - 1)
+steps-none = word-none
 
-pub step-is : (rows : List ℕ) (t w : ℕ) → t < 16 → w ≡ select rows ((2 * 2 ^ t) % 2 ^ 32 - 1) → w ≡ stepOf rows t
-unfolding stepOf
-step-is rows t w h e = e ∙ ap (λ (y : ℕ). select rows (y - 1)) (bits-to t h)
+pub step-next : (rows : List ℕ) (t sum : ℕ) → t < length rows → sum ≡ select rows (2 ^ t - 1) → bitXor sum (getD rows t 0) ≡ stepOf rows t
+unfolding _⊕_ stepOf select
+step-next rows t sum l e =
+    let p = pow-pos t in
+    let low : bitXor (1 * 2 ^ t) (2 ^ t - 1) ≡ 1 * 2 ^ t + (2 ^ t - 1) = xor-shifted 1 t (2 ^ t - 1) (omega arith) in
+    let one : 1 * 2 ^ t ≡ 2 ^ t = omega arith in
+    let two : 2 ^ (t + 1) ≡ 2 ^ suc t = ap (λ (i : ℕ). 2 ^ i) (add-one t) in
+    let all : 2 ^ t ⊕ (2 ^ t - 1) ≡ 2 ^ (t + 1) - 1 = ap (λ (x : ℕ). bitXor x (2 ^ t - 1)) (sym one) ∙ low ∙ omega arith in
+    ap₂ bitXor e (sym (over-disk (length rows) t (λ i. getD rows i 0) l)) ∙ ⊕-comm (select rows (2 ^ t - 1)) (select rows (2 ^ t))
+    ∙ sym (select-⊕ rows (2 ^ t) (2 ^ t - 1)) ∙ ap (select rows) all

@@ -45,8 +45,10 @@ pub fn steps(rows: [u32; 16]) -> [u32; 16]
     ensures { λ r. ⌜ r ≡ tabulate 16 (stepOf rows) ⌝ }
 {
     let mut out = [0u32; 16];
+    let mut sum = 0u32;
     for t in 0..16 {
-        out[t] = gf2::select(rows, (2u32 << t) - 1);
+        sum = sum ^ rows[t];
+        out[t] = sum;
     }
     out
 }
