@@ -2,6 +2,7 @@
 // worked codes, the chain code of document 002, IV-B, a dense code, and each refusal. What it must write was derived by
 // tests/calls_test.py.
 use card::CardFault;
+use card::Edition;
 use equations::Told;
 use libc::STDOUT_FILENO;
 use verdicts::SetVerdict;
@@ -49,7 +50,7 @@ fn list(card: &[u8]) {
 
 // The verdict on a set.
 fn judge(card: &[u8], set: u32) {
-    match verdicts::verdict(card, set) {
+    match verdicts::verdict(Edition::First, card, set) {
         SetVerdict::Undetermined(undetermined) => say_number(
             b"undetermined ",
             undetermined as usize,
@@ -89,14 +90,14 @@ fn show(told: Told, slots: [u32; 5]) {
 // The equations of a disk, into five slots.
 fn tell(card: &[u8], disk: usize) {
     let mut slots = [99u32; 5];
-    let told = equations::list(card, disk, &mut slots);
+    let told = equations::list(Edition::First, card, disk, &mut slots);
     show(told, slots);
 }
 
 // Into the first three of them.
 fn tell_short(card: &[u8], disk: usize) {
     let mut slots = [99u32; 5];
-    let told = equations::list(card, disk, &mut slots[..3]);
+    let told = equations::list(Edition::First, card, disk, &mut slots[..3]);
     show(told, slots);
 }
 

@@ -2,20 +2,20 @@
 -- Assumes nothing.
 use mathlib.Core.Path.{_≡_, refl, sym, ap, _∙_}
 use mathlib.Core.Bool.{Bool, true, false}
-use mathlib.Core.List.{List, [], _∷_}
-use Prim.Native.Nat.{ℕ, _+_, _*_, _≤_, _<_}
+use mathlib.Core.List.{[], _∷_}
+use Prim.Native.Nat.{ℕ, _≤_, _<_}
 use native.Mathlib.Omega.{arith}
-use borrow.Author.Tests.{lt-ltb, le-ltb}
+use borrow.Author.Tests.{lt-ltb}
 use lib.Dec.{eqb}
-use lib.ListN.{length, getD, replicate}
+use lib.ListN.{getD, replicate}
 use Rattle.gf2.specs.If.{if_then_else_}
 use Rattle.flat.specs.Lists.{padded}
-use Rattle.flat.specs.Cards.{Code, countOk, firstBad, cardLength, codeOf, columnBytes, codeIn}
-use Rattle.flat.specs.Faults.{Report, accepted, refused, unlessRefused, codeReport, cardReport, cardColumns}
+use Rattle.flat.specs.Cards.{Code, countOk, firstBad, Card, codeOf, wearsOf}
+use Rattle.flat.specs.Faults.{Report, refused, unlessRefused, codeReport, cardReport, cardColumns, cardWears}
 use Rattle.flat.proofs.Reports.{unless-other}
 use Rattle.flat.proofs.Cards.{sound-report}
 use Rattle.card.specs.declared.CardFault.{CardFault}
-use Rattle.card.specs.declared.CardFault.the-variants.{Short, DataCount, ParityCount, Length, Column}
+use Rattle.card.specs.declared.CardFault.the-variants.{Short, FirstByte, DataCount, ParityCount, Length, Column, ZeroWear}
 use Rattle.card.specs.Reports.{faultReport}
 
 -- ---- the report of a code at each way out
@@ -44,20 +44,6 @@ module _ (C : Code) (sized : Bool) (next : Report) where
         code-good j e h =
             sym (ap (λ (b : Bool). codeReport C b next) es ∙ sound-report C next (record { k-ok = ek; m-ok = em; first = omega arith }))
 
--- ---- the report of a card
-
-pub card-short : (card : List ℕ) → length card < 2 → refused 1 [] ≡ cardReport card
-unfolding cardReport
-card-short card h = simp (lt-ltb _ _ h)
-
--- past the first test a card's report is that of its code
-pub card-tests : (card : List ℕ) {r : Report} → 2 ≤ length card →
-    let k = getD card 0 0 in
-    let m = getD card 1 0 in
-    r ≡ codeReport (codeIn k m (columnBytes card)) (eqb (length card) (2 + 2 * m)) (accepted (k ∷ m ∷ [])) → r ≡ cardReport card
-unfolding cardReport codeOf cardLength
-card-tests card h e = simp (le-ltb _ _ h) e
-
 -- ---- faults
 
 -- the fault that a report comes from
@@ -67,15 +53,19 @@ faultOf r =
     if eqb (r .number) 2 then DataCount else
     if eqb (r .number) 3 then ParityCount else
     if eqb (r .number) 4 then Length else
+    if eqb (r .number) 22 then FirstByte else
+    if eqb (r .number) 23 then ZeroWear else
     Column (getD (r .values) 0 0)
 
 -- a fault's number is not 0, and its report tells the fault. No other proof takes the faults apart.
 fault-told : (f : CardFault) → (eqb (faultReport f .number) 0 ≡ false) × (faultOf (faultReport f) ≡ f)
 fault-told Short = (refl, refl)
+fault-told FirstByte = (refl, refl)
 fault-told DataCount = (refl, refl)
 fault-told ParityCount = (refl, refl)
 fault-told Length = (refl, refl)
 fault-told (Column j) = (refl, refl)
+fault-told ZeroWear = (refl, refl)
 
 pub fault-refuses : (f : CardFault) → eqb (faultReport f .number) 0 ≡ false
 fault-refuses f = fault-told f .0
@@ -88,7 +78,11 @@ module _ {A : Type 0} where
   pub unless-fault : (f : CardFault) (r : Report) (new old : A) → faultReport f ≡ r → unlessRefused r new old ≡ old
   unless-fault f r new old e = sym (unless-other r new old (ap (λ (x : Report). eqb (x .number) 0) (sym e) ∙ fault-refuses f))
 
--- a refused card has no columns
-pub columns-refused : (card : List ℕ) (f : CardFault) → faultReport f ≡ cardReport card → replicate 16 0 ≡ cardColumns card
+-- a refused card has no columns and no wears
+pub columns-refused : (card : Card) (f : CardFault) → faultReport f ≡ cardReport card → replicate 16 0 ≡ cardColumns card
 unfolding cardColumns padded
 columns-refused card f e = sym (ap (padded 16) (unless-fault f (cardReport card) (codeOf card .columns) [] e))
+
+pub wears-refused : (card : Card) (f : CardFault) → faultReport f ≡ cardReport card → replicate 32 0 ≡ cardWears card
+unfolding cardWears padded
+wears-refused card f e = sym (ap (padded 32) (unless-fault f (cardReport card) (wearsOf card) [] e))

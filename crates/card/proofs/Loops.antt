@@ -1,17 +1,19 @@
--- What the loops keep: the search for the first bad column, and the columns filled in place by place.
+-- What the loops keep: the search for the first bad column and for a zero wear, and columns and wears filled in place by place.
 -- Assumes nothing.
-use mathlib.Core.Path.{_≡_, ap, _∙_}
+use mathlib.Core.Path.{_≡_, sym, ap, _∙_}
 use mathlib.Core.Bool.{true, false}
+use mathlib.Core.Logic.{_≢_}
 use mathlib.Core.List.{List}
 use Prim.Native.Nat.{ℕ, suc, _+_, _*_, _≤_, _<_}
 use native.Mathlib.Numerals.{add-one}
 use native.Mathlib.Omega.{arith}
+use borrow.Author.Tests.{ne-eqb}
 use lib.ListN.{length, getD, drop, set, replicate}
 use lib.Seq.{drop-cons, drop-length}
 use Rattle.gf2.specs.If.{if_then_else_}
-use Rattle.flat.specs.Lists.{padded, field}
+use Rattle.flat.specs.Lists.{tabulate, member, padded, field}
 use Rattle.flat.specs.Cards.{columnOk, firstBad, columnsIn}
-use Rattle.flat.proofs.Lists.{fill-none, fill-more}
+use Rattle.flat.proofs.Lists.{constant, entries, fill-none, fill-more}
 
 -- ---- the search for the first bad column
 
@@ -56,3 +58,25 @@ pub filled-more : (j v : ℕ) (bs out : List ℕ) → j < 16 → out ≡ padded 
     → set out j v ≡ padded 16 (columnsIn (j + 1) bs)
 unfolding columnsIn
 filled-more j v bs out h o e = fill-more 16 j v (λ i. field (2 * i) 2 bs) out h o e
+
+-- ---- the search for a zero: one is left exactly where there is one
+
+pub searched-more : (ws : List ℕ) (i : ℕ) → i < length ws → getD ws i 0 ≢ 0 → member 0 ws ≡ member 0 (drop i ws) → member 0 ws ≡ member 0 (drop (i + 1) ws)
+unfolding member
+searched-more ws i l f e = e ∙ rw (add-one, drop-cons ws i 0, ne-eqb 0 (getD ws i 0) (λ z. f (sym z)))
+
+pub searched-found : (ws : List ℕ) (i : ℕ) → i < length ws → getD ws i 0 ≡ 0 → member 0 ws ≡ member 0 (drop i ws) → true ≡ member 0 ws
+unfolding member
+searched-found ws i l z e = sym (e ∙ rw (drop-cons ws i 0, z))
+
+pub searched-all : (ws : List ℕ) (i : ℕ) → i ≡ length ws → member 0 ws ≡ member 0 (drop i ws) → false ≡ member 0 ws
+unfolding member
+searched-all ws i n e = sym (e ∙ ap (λ (j : ℕ). member 0 (drop j ws)) n ∙ rw drop-length)
+
+-- ---- a wear for each disk
+
+pub ones-all : (n i : ℕ) (out : List ℕ) → i ≡ n → out ≡ padded 32 (tabulate i (λ j. 1)) → out ≡ padded 32 (replicate n 1)
+ones-all n i out e h = h ∙ ap (padded 32) (ap (λ (x : ℕ). tabulate x (λ j. 1)) e ∙ sym (constant n 1))
+
+pub worn-all : (ws : List ℕ) (i : ℕ) (out : List ℕ) → i ≡ length ws → out ≡ padded 32 (tabulate i (λ j. getD ws j 0)) → out ≡ padded 32 ws
+worn-all ws i out e h = h ∙ ap (padded 32) (ap (λ (x : ℕ). tabulate x (λ j. getD ws j 0)) e ∙ entries ws)

@@ -1,3 +1,4 @@
 pub mod Columns
+pub mod Editions
 pub mod Reports
 pub mod Theorems

@@ -1,26 +1,40 @@
-// Cards: the bytes that describe a code, k, m, then m columns of two bytes, low byte first. The check
-// that every call makes of a card, its faults with their numbers, the part that the columns stand in, the
-// card reader, one column out of the bytes, the tests of counts and columns that the card writer shares,
-// and the test of a strip length, which goes with a card in every call that takes strips.
+// Cards: the bytes that describe a code, k, m, then m columns of two bytes, low byte first. In the second
+// edition a byte 0x02 comes before them, and a wear for each disk after them. The check that every call
+// makes of a card, its faults with their numbers, the part that the columns stand in, the card reader, one
+// column out of the bytes, the tests of counts and columns that the card writer shares, and the test of a
+// strip length, which goes with a card in every call that takes strips. Where the parts of an edition
+// stand, module `editions` knows, and nobody else.
 //
-// Every byte string is a legal argument of `check` and `read`. What is answered for which input is said
-// in flat/specs/Faults.antt.
+// Every byte string is a legal argument of `check` and `read`, in either edition. What is answered for which
+// input is said in flat/specs/Faults.antt.
 ghost use mathlib.Core.Path.{_≡_};
 ghost use Prim.Native.Nat.{_+_, _*_, _<_, _≤_};
 ghost use lib.ListN.{length, getD};
 ghost use Rattle.flat.specs.Lists.{padded, field};
-ghost use Rattle.flat.specs.Cards.{countOk, columnOk, firstBad, columnBytes, columnsIn};
+ghost use Rattle.flat.specs.Cards.{countOk, columnOk, firstBad, columnsIn, cardOf};
 ghost use Rattle.flat.specs.Strips.{lengthOk};
-ghost use Rattle.flat.specs.Faults.{cardReport, cardColumns};
+ghost use Rattle.flat.specs.Faults.{cardReport, cardColumns, cardWears};
 ghost use Rattle.card.specs.Reports.{faultReport, report};
 
+mod editions;
+
+pub use editions::columns;
+pub use editions::has_zero;
+pub use editions::length;
+pub use editions::wear_count;
+pub use editions::wears;
+pub use flat::Edition;
+
 // A fault of whoever wrote the card. Column names the first column that is 0 or has a bit at k or above.
+// FirstByte and ZeroWear are faults of the second edition alone.
 pub enum CardFault {
     Short,
+    FirstByte,
     DataCount,
     ParityCount,
     Length,
     Column(usize),
+    ZeroWear,
 }
 
 // A fault's number.
@@ -29,10 +43,12 @@ pub fn number(fault: CardFault) -> usize
 {
     match fault {
         CardFault::Short => 1,
+        CardFault::FirstByte => 22,
         CardFault::DataCount => 2,
         CardFault::ParityCount => 3,
         CardFault::Length => 4,
         CardFault::Column(_) => 5,
+        CardFault::ZeroWear => 23,
     }
 }
 
@@ -42,10 +58,12 @@ pub fn value(fault: CardFault) -> usize
 {
     match fault {
         CardFault::Short => 0,
+        CardFault::FirstByte => 0,
         CardFault::DataCount => 0,
         CardFault::ParityCount => 0,
         CardFault::Length => 0,
         CardFault::Column(j) => j,
+        CardFault::ZeroWear => 0,
     }
 }
 
@@ -55,11 +73,12 @@ pub enum CardCheck {
     Bad(CardFault),
 }
 
-// The card reader's answer. The columns stand in the first m places, the others are 0, and all are
-// where the card is refused.
+// The card reader's answer. The columns stand in the first m places and the wears of the disks in the
+// first k + m, the others are 0, and all are where the card is refused.
 pub struct CardRead {
     pub check: CardCheck,
     pub columns: [u16; 16],
+    pub wears: [u8; 32],
 }
 
 // 1 to 16.
@@ -119,14 +138,6 @@ pub fn column(columns: &[u8], j: usize) -> u16
     low + 256 * high
 }
 
-// The part of a card that its columns stand in.
-pub fn columns(card: &[u8]) -> &[u8]
-    requires { ⌜ 2 ≤ length (now card) ⌝ }
-    ensures { λ r. ⌜ now r ≡ columnBytes (now (card .entry)) ⌝ }
-{
-    &card[2..]
-}
-
 // The m columns out of their bytes, then zeros.
 fn columns_of(m: usize, columns: &[u8]) -> [u16; 16]
     requires { ⌜ (m ≤ 16) × (2 * m ≤ length (now columns)) ⌝ }
@@ -153,46 +164,58 @@ fn first_bad_in(k: usize, m: usize, columns: &[u8]) -> usize
     m
 }
 
-// Whether the bytes are a card, and of how many disks.
-pub fn check(card: &[u8]) -> CardCheck
-    ensures { λ r. ⌜ report r ≡ cardReport (now (card .entry)) ⌝ }
+// Whether the bytes are a card of the edition, and of how many disks.
+pub fn check(edition: Edition, card: &[u8]) -> CardCheck
+    ensures { λ r. ⌜ report r ≡ cardReport (cardOf edition (now (card .entry))) ⌝ }
 {
-    if card.len() < 2 {
+    let at = editions::start(edition);
+    if card.len() < at + 2 {
         return CardCheck::Bad(CardFault::Short);
     }
-    let k = card[0] as usize;
-    let m = card[1] as usize;
+    if !editions::first_byte_ok(edition, card) {
+        return CardCheck::Bad(CardFault::FirstByte);
+    }
+    let k = card[at] as usize;
+    let m = card[at + 1] as usize;
     if !count_ok(k) {
         return CardCheck::Bad(CardFault::DataCount);
     }
     if !count_ok(m) {
         return CardCheck::Bad(CardFault::ParityCount);
     }
-    if card.len() != 2 + 2 * m {
+    if card.len() != length(edition, k, m) {
         return CardCheck::Bad(CardFault::Length);
     }
-    let bad = first_bad_in(k, m, columns(card));
+    let bad = first_bad_in(k, m, columns(edition, card));
     if bad < m {
         return CardCheck::Bad(CardFault::Column(bad));
+    }
+    if has_zero(editions::held(edition, card)) {
+        return CardCheck::Bad(CardFault::ZeroWear);
     }
     CardCheck::Good { k, m }
 }
 
-// The card reader: k, m and the columns.
-pub fn read(card: &[u8]) -> CardRead
-    ensures { λ r. ⌜ (report (r .check) ≡ cardReport (now (card .entry))) × (r .columns ≡ cardColumns (now (card .entry))) ⌝ }
+// The card reader: k, m, the columns and the wears.
+pub fn read(edition: Edition, card: &[u8]) -> CardRead
+    ensures { λ r. ⌜ report (r .check) ≡ cardReport (cardOf edition (now (card .entry))) ⌝ }
+    ensures { λ r. ⌜ r .columns ≡ cardColumns (cardOf edition (now (card .entry))) ⌝ }
+    ensures { λ r. ⌜ r .wears ≡ cardWears (cardOf edition (now (card .entry))) ⌝ }
 {
-    let check = check(card);
+    let check = check(edition, card);
     match check {
         CardCheck::Bad(_) => CardRead {
             check,
             columns: [0u16; 16],
+            wears: [0u8; 32],
         },
-        CardCheck::Good { k: _, m } => {
-            let all = columns_of(m, columns(card));
+        CardCheck::Good { k, m } => {
+            let all = columns_of(m, columns(edition, card));
+            let worn = wears(edition, card, k + m);
             CardRead {
                 check,
                 columns: all,
+                wears: worn,
             }
         }
     }

@@ -1,3 +1,4 @@
 pub mod Laws
-pub mod Loops
+pub mod Tested
+pub mod Putting
 pub mod Theorems

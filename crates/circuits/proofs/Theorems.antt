@@ -13,7 +13,7 @@ use Rattle.flat.specs.Lists.{member}
 use Rattle.flat.specs.Cards.{Code, codeOf}
 use Rattle.flat.specs.Erasures.{erasures}
 use Rattle.flat.specs.Spans.{rows}
-use Rattle.flat.proofs.Cards.{accepted-card}
+use Rattle.flat.proofs.Editions.{accepted-card}
 use Rattle.flat.proofs.Fatal.{fatal-inside, minimal-out}
 use Rattle.flat.proofs.ErasuresListed.{erasures-out, fatal-listed}
 use Rattle.flat.proofs.Vector.{entry-sizes}

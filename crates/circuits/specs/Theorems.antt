@@ -7,7 +7,7 @@ use Prim.Native.Nat.{ℕ, _≤_}
 use lib.Dec.{T}
 use lib.ListN.{length}
 use Rattle.gf2.specs.Sets.{has, _⊕_, _⊆_}
-use Rattle.flat.specs.Cards.{Code, codeOf}
+use Rattle.flat.specs.Cards.{Code, Card, codeOf}
 use Rattle.flat.specs.Erasures.{erasures}
 use Rattle.flat.specs.Faults.{accepted, cardReport}
 use Rattle.demands.specs.Demand3.{listed}
@@ -21,7 +21,7 @@ ErasuresAreCircuits = (C : Code) → Circuits (C .m) (erasures C)
 -- their count: those of which `Demand3` speaks.
 abbrev pub EntriesAreCircuits : Type 0
 EntriesAreCircuits =
-    (card slice : List ℕ) (k m : ℕ) → cardReport card ≡ accepted (k ∷ m ∷ []) → length (erasures (codeOf card)) ≤ length slice
+    (card : Card) (slice : List ℕ) (k m : ℕ) → cardReport card ≡ accepted (k ∷ m ∷ []) → length (erasures (codeOf card)) ≤ length slice
     → Circuits m (listed card slice)
 
 -- Where two sets overlap, what lies within the disks that belong to just one of them is neither of the two: the third is another entry.

@@ -8,7 +8,7 @@ use borrow.Author.Tests.{eq-eqb, ne-eqb}
 use lib.Dec.{eqb}
 use lib.ListN.{length}
 use Rattle.gf2.specs.If.{if_then_else_}
-use Rattle.flat.specs.Cards.{Code, codeOf, disks, columnBytes, codeIn}
+use Rattle.flat.specs.Cards.{Code, Card, codeOf, disks, columnBytes, codeIn}
 use Rattle.flat.specs.Strips.{lengthOk, encoded}
 use Rattle.flat.specs.Faults.{accepted, refused, cardReport, encodeTests, encodeReport, encodeStripe}
 use Rattle.flat.proofs.Reports.{unless-accepted, unless-refused}
@@ -19,11 +19,11 @@ use Rattle.card.proofs.Laws.{unless-fault}
 use Rattle.card.proofs.Callers.{GoodCard, good-with, bad-card}
 
 -- a refused call leaves the stripe
-pub stripe-kept : (card : List ℕ) (l n : ℕ) (vs stripe : List ℕ) → refused (suc n) vs ≡ encodeReport card l (length stripe) → stripe ≡ encodeStripe card l stripe
+pub stripe-kept : (card : Card) (l n : ℕ) (vs stripe : List ℕ) → refused (suc n) vs ≡ encodeReport card l (length stripe) → stripe ≡ encodeStripe card l stripe
 unfolding encodeStripe
 stripe-kept card l n vs stripe e = sym (unless-refused (encodeReport card l (length stripe)) n vs (encoded (codeOf card) l stripe) stripe (sym e))
 
-module _ (card : List ℕ) (l : ℕ) (f : CardFault) (bad : checkReport (Bad f) ≡ cardReport card) where
+module _ (card : Card) (l : ℕ) (f : CardFault) (bad : checkReport (Bad f) ≡ cardReport card) where
   pub bad-report : (n : ℕ) → faultReport f ≡ encodeReport card l n
   unfolding encodeReport
   bad-report n = sym (bad-card card f (λ C. encodeTests C l n) bad)
@@ -32,7 +32,7 @@ module _ (card : List ℕ) (l : ℕ) (f : CardFault) (bad : checkReport (Bad f) 
   unfolding encodeStripe
   bad-stripe stripe = sym (unless-fault f (encodeReport card l (length stripe)) (encoded (codeOf card) l stripe) stripe (bad-report (length stripe)))
 
-module _ (card : List ℕ) (l k m n : ℕ) (g : GoodCard card k m) where
+module _ (card : Card) (l k m n : ℕ) (g : GoodCard card k m) where
   -- by the two tests
   tests : (a b : Bool) → lengthOk l ≡ a → eqb n ((k + m) * l) ≡ b
       → encodeReport card l n ≡ (if not a then refused 6 [] else if not b then refused 7 [] else accepted [])
@@ -51,7 +51,7 @@ module _ (card : List ℕ) (l k m n : ℕ) (g : GoodCard card k m) where
   good-report p e = sym (tests true true p (eq-eqb n ((k + m) * l) e))
 
 -- an accepted call leaves it encoded
-pub good-stripe : (card : List ℕ) (l k m : ℕ) (stripe : List ℕ) → GoodCard card k m → accepted [] ≡ encodeReport card l (length stripe)
+pub good-stripe : (card : Card) (l k m : ℕ) (stripe : List ℕ) → GoodCard card k m → accepted [] ≡ encodeReport card l (length stripe)
     → encoded (codeIn k m (columnBytes card)) l stripe ≡ encodeStripe card l stripe
 unfolding encodeStripe
 good-stripe card l k m stripe g e =

@@ -12,7 +12,7 @@ ghost use Prim.Native.Nat.{ℕ, _+_, _*_, _<_, _≤_};
 ghost use lib.ListN.{length, getD};
 ghost use Rattle.gf2.specs.Sets.{bit};
 ghost use Rattle.flat.specs.Lists.{tabulate, put, field};
-ghost use Rattle.flat.specs.Cards.{codeIn};
+ghost use Rattle.flat.specs.Cards.{codeIn, cardOf};
 ghost use Rattle.flat.specs.Strips.{encoded};
 ghost use Rattle.flat.specs.Faults.{encodeReport, encodeStripe};
 ghost use Rattle.card.specs.Columns.{Columns};
@@ -20,6 +20,7 @@ ghost use Rattle.strip_products.specs.Products.{Bits};
 ghost use Rattle.encoder.specs.Reports.{report};
 use card::CardCheck;
 use card::CardFault;
+use card::Edition;
 
 // The encoder's answer: encoded, the card's fault, a strip length that is none, or a stripe of another
 // length.
@@ -63,11 +64,11 @@ fn encode_columns(columns: &[u8], k: usize, m: usize, l: usize, stripe: &mut [u8
 }
 
 // The encoder.
-pub fn encode(card: &[u8], l: usize, stripe: &mut [u8]) -> Encoded
-    ensures { λ r. ⌜ report r ≡ encodeReport (now (card .entry)) l (length (now (stripe .entry))) ⌝ }
-    ensures { λ _. ⌜ now (stripe .exit) ≡ encodeStripe (now (card .entry)) l (now (stripe .entry)) ⌝ }
+pub fn encode(edition: Edition, card: &[u8], l: usize, stripe: &mut [u8]) -> Encoded
+    ensures { λ r. ⌜ report r ≡ encodeReport (cardOf edition (now (card .entry))) l (length (now (stripe .entry))) ⌝ }
+    ensures { λ _. ⌜ now (stripe .exit) ≡ encodeStripe (cardOf edition (now (card .entry))) l (now (stripe .entry)) ⌝ }
 {
-    match card::check(card) {
+    match card::check(edition, card) {
         CardCheck::Bad(fault) => Encoded::Card(fault),
         CardCheck::Good { k, m } => {
             if !card::length_ok(l) {
@@ -76,7 +77,7 @@ pub fn encode(card: &[u8], l: usize, stripe: &mut [u8]) -> Encoded
             if stripe.len() != (k + m) * l {
                 return Encoded::StripeLength;
             }
-            encode_columns(card::columns(card), k, m, l, stripe);
+            encode_columns(card::columns(edition, card), k, m, l, stripe);
             Encoded::Done
         }
     }

@@ -15,7 +15,7 @@ use Rattle.gf2.specs.Sets.{has, first, setOf}
 use Rattle.gf2.proofs.Tests.{below-or}
 use Rattle.gf2.proofs.Made.{set-cong}
 use Rattle.gf2.proofs.Unions.{first-has}
-use Rattle.flat.specs.Cards.{Code, code, codeOf, disks, columnBytes, codeIn}
+use Rattle.flat.specs.Cards.{Code, code, Card, codeOf, disks, columnBytes, codeIn}
 use Rattle.flat.specs.Equations.{equations}
 use Rattle.flat.specs.Faults.{Report, refused, unlessRefused, cardReport, listReport, listSlice, equationsTests, equationsReport, equationsSlice}
 use Rattle.flat.specs.Spans.{checks}
@@ -45,7 +45,7 @@ unfolding disks
 checks-listable k m count bs out hk hm e f =
     listable m count (checks (code k m bs)) out e f (k + m) hm (omega arith) (omega arith) (checks-systematic (code k m bs))
 
-module _ (card : List ℕ) (d : ℕ) (f : CardFault) (bad : checkReport (Bad f) ≡ cardReport card) where
+module _ (card : Card) (d : ℕ) (f : CardFault) (bad : checkReport (Bad f) ≡ cardReport card) where
   pub bad-report : (n : ℕ) → faultReport f ≡ equationsReport card d n
   unfolding equationsReport
   bad-report n = sym (bad-card card f (λ D. equationsTests D d n) bad)
@@ -55,7 +55,7 @@ module _ (card : List ℕ) (d : ℕ) (f : CardFault) (bad : checkReport (Bad f) 
   bad-slice slice =
       sym (unless-fault f (equationsReport card d (length slice)) (listSlice (equations (codeOf card) d) slice) slice (bad-report (length slice)))
 
-module _ (card : List ℕ) (d k m : ℕ) (g : GoodCard card k m) where
+module _ (card : Card) (d k m : ℕ) (g : GoodCard card k m) where
   abbrev C : Code
   C = codeIn k m (columnBytes card)
 

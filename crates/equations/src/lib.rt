@@ -6,7 +6,7 @@
 ghost use mathlib.Core.Path.{_≡_};
 ghost use Prim.Native.Nat.{_+_, _≤_, _<_};
 ghost use lib.ListN.{length};
-ghost use Rattle.flat.specs.Cards.{codeIn};
+ghost use Rattle.flat.specs.Cards.{codeIn, cardOf};
 ghost use Rattle.flat.specs.Equations.{equations};
 ghost use Rattle.flat.specs.Faults.{unlessRefused, listReport, listSlice, equationsReport, equationsSlice};
 ghost use Rattle.card.specs.Columns.{Columns};
@@ -14,6 +14,7 @@ ghost use Rattle.equations.specs.Reports.{report};
 ghost use Rattle.equations.specs.Parities.{parities};
 use card::CardCheck;
 use card::CardFault;
+use card::Edition;
 use minimal_marks::KEYS;
 
 // The equation call's answer: the count, the card's fault, a disk that the code lacks, or the count
@@ -56,17 +57,17 @@ fn list_columns(columns: &[u8], k: usize, m: usize, disk: usize, out: &mut [u32]
 
 // The equation call: the equations of the disk into the slice, smaller size first, then fewer parity
 // disks, then smaller set number.
-pub fn list(card: &[u8], disk: usize, out: &mut [u32]) -> Told
-    ensures { λ r. ⌜ report r ≡ equationsReport (now (card .entry)) disk (length (now (out .entry))) ⌝ }
-    ensures { λ _. ⌜ now (out .exit) ≡ equationsSlice (now (card .entry)) disk (now (out .entry)) ⌝ }
+pub fn list(edition: Edition, card: &[u8], disk: usize, out: &mut [u32]) -> Told
+    ensures { λ r. ⌜ report r ≡ equationsReport (cardOf edition (now (card .entry))) disk (length (now (out .entry))) ⌝ }
+    ensures { λ _. ⌜ now (out .exit) ≡ equationsSlice (cardOf edition (now (card .entry))) disk (now (out .entry)) ⌝ }
 {
-    match card::check(card) {
+    match card::check(edition, card) {
         CardCheck::Bad(fault) => Told::Card(fault),
         CardCheck::Good { k, m } => {
             if k + m <= disk {
                 return Told::NoDisk;
             }
-            list_columns(card::columns(card), k, m, disk, out)
+            list_columns(card::columns(edition, card), k, m, disk, out)
         }
     }
 }

@@ -5,7 +5,7 @@ use mathlib.Core.List.{List, []}
 use Prim.Native.Nat.{ℕ}
 use lib.ListN.{length, replicate}
 use Rattle.flat.specs.Lists.{padded}
-use Rattle.flat.specs.Cards.{Code, codeOf, columnBytes, codeIn}
+use Rattle.flat.specs.Cards.{Code, Card, codeOf, columnBytes, codeIn}
 use Rattle.flat.specs.Erasures.{erasures, vector}
 use Rattle.flat.specs.Faults.{Report, unlessRefused, cardReport, listReport, listSlice, erasuresReport, erasuresVector, erasuresSlice}
 use Rattle.card.specs.declared.CardFault.{CardFault}
@@ -14,7 +14,7 @@ use Rattle.card.specs.Reports.{faultReport, report as checkReport}
 use Rattle.card.proofs.Laws.{unless-fault}
 use Rattle.card.proofs.Callers.{GoodCard, good-with, bad-card}
 
-module _ (card : List ℕ) (f : CardFault) (bad : checkReport (Bad f) ≡ cardReport card) where
+module _ (card : Card) (f : CardFault) (bad : checkReport (Bad f) ≡ cardReport card) where
   pub bad-report : (n : ℕ) → faultReport f ≡ erasuresReport card n
   unfolding erasuresReport
   bad-report n = sym (bad-card card f (λ C. listReport (erasures C) n) bad)
@@ -28,7 +28,7 @@ module _ (card : List ℕ) (f : CardFault) (bad : checkReport (Bad f) ≡ cardRe
   bad-slice slice =
       sym (unless-fault f (erasuresReport card (length slice)) (listSlice (erasures (codeOf card)) slice) slice (bad-report (length slice)))
 
-module _ (card : List ℕ) (k m : ℕ) (g : GoodCard card k m) where
+module _ (card : Card) (k m : ℕ) (g : GoodCard card k m) where
   abbrev C : Code
   C = codeIn k m (columnBytes card)
 

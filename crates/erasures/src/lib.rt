@@ -7,7 +7,7 @@ ghost use mathlib.Core.List.{[]};
 ghost use Prim.Native.Nat.{_+_, _*_, _≤_};
 ghost use lib.ListN.{length, getD};
 ghost use Rattle.flat.specs.Lists.{padded, tabulate};
-ghost use Rattle.flat.specs.Cards.{codeIn};
+ghost use Rattle.flat.specs.Cards.{codeIn, cardOf};
 ghost use Rattle.flat.specs.Erasures.{erasures, vector};
 ghost use Rattle.flat.specs.Faults.{unlessRefused, listReport, listSlice, erasuresReport, erasuresVector, erasuresSlice};
 ghost use Rattle.card.specs.Columns.{Columns};
@@ -15,6 +15,7 @@ ghost use Rattle.minimal_words.specs.Listed.{sizes};
 ghost use Rattle.erasures.specs.Reports.{report};
 use card::CardCheck;
 use card::CardFault;
+use card::Edition;
 use minimal_marks::KEYS;
 use minimal_marks::SIZES;
 
@@ -71,16 +72,16 @@ fn list_columns(columns: &[u8], k: usize, m: usize, out: &mut [u32]) -> Listing
 }
 
 // The lister: all minimal erasures into the slice, smaller size first, then smaller data part.
-pub fn list(card: &[u8], out: &mut [u32]) -> Listing
-    ensures { λ r. ⌜ report (r .answer) ≡ erasuresReport (now (card .entry)) (length (now (out .entry))) ⌝ }
-    ensures { λ r. ⌜ r .vector ≡ erasuresVector (now (card .entry)) (length (now (out .entry))) ⌝ }
-    ensures { λ _. ⌜ now (out .exit) ≡ erasuresSlice (now (card .entry)) (now (out .entry)) ⌝ }
+pub fn list(edition: Edition, card: &[u8], out: &mut [u32]) -> Listing
+    ensures { λ r. ⌜ report (r .answer) ≡ erasuresReport (cardOf edition (now (card .entry))) (length (now (out .entry))) ⌝ }
+    ensures { λ r. ⌜ r .vector ≡ erasuresVector (cardOf edition (now (card .entry))) (length (now (out .entry))) ⌝ }
+    ensures { λ _. ⌜ now (out .exit) ≡ erasuresSlice (cardOf edition (now (card .entry))) (now (out .entry)) ⌝ }
 {
-    match card::check(card) {
+    match card::check(edition, card) {
         CardCheck::Bad(fault) => Listing {
             answer: Listed::Card(fault),
             vector: [0usize; 17],
         },
-        CardCheck::Good { k, m } => list_columns(card::columns(card), k, m, out),
+        CardCheck::Good { k, m } => list_columns(card::columns(edition, card), k, m, out),
     }
 }

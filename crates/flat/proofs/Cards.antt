@@ -1,21 +1,21 @@
--- Cards: the tests of a code, its columns in bytes, and what is known of an accepted card.
+-- The tests of a code, its columns in bytes, and what is known of a code that passes the tests.
 -- Assumes nothing.
-use mathlib.Core.Path.{_≡_, refl, sym, ap, ap₂, _∙_, subst}
+use mathlib.Core.Path.{_≡_, refl, sym, ap, ap₂, _∙_}
 use mathlib.Core.Bool.{Bool, true, false, not}
 use mathlib.Core.List.{List, [], _∷_, _++_}
 use Prim.Native.Nat.{ℕ, zero, suc, _+_, _*_, _^_, _≤_, _<_}
 use native.Mathlib.Nat.{not-suc-le-zero}
 use native.Mathlib.Omega.{arith}
-use borrow.Author.Tests.{ltb-false, eqb-true, not-false, le-ltb, eq-eqb}
-use lib.Dec.{leb, ltb, eqb}
+use borrow.Author.Tests.{ltb-false, not-false, le-ltb}
+use lib.Dec.{leb, ltb}
 use lib.ListN.{length, getD}
 use Rattle.gf2.specs.If.{if_then_else_}
 use Rattle.gf2.proofs.Tests.{true-T, and-out, ltb-out, leb-out}
 use Rattle.flat.specs.Lists.{Bytes, tabulate, each, bytes, field}
-use Rattle.flat.specs.Cards.{Code, countOk, columnOk, firstBad, cardLength, columnsIn, codeOf, columnBytes, codeIn}
-use Rattle.flat.specs.Faults.{Report, accepted, codeReport, cardReport}
+use Rattle.flat.specs.Cards.{Code, countOk, columnOk, firstBad, columnsIn}
+use Rattle.flat.specs.Faults.{Report, accepted, codeReport}
 use Rattle.flat.proofs.Lists.{length-tabulate, getD-tabulate, tabulate-cong, field-two}
-use Rattle.flat.proofs.Reports.{passed, passed-number}
+use Rattle.flat.proofs.Reports.{passed}
 
 -- ---- the tests
 
@@ -111,7 +111,7 @@ bytes-columns (suc m) (x ∷ y ∷ bs) b e =
     ap (each (bytes 2)) (columns-cons m x y bs)
     ∙ ap₂ (λ (p q : List ℕ). p ++ q) (two-bytes x y (b 0) (b 1)) (bytes-columns m bs (λ i. b (suc (suc i))) (omega arith))
 
--- ---- accepted codes and cards
+-- ---- accepted codes
 
 -- what the tests 2 to 5 leave of a code that passes them
 pub record Sound (C : Code) : Type 0 where
@@ -139,50 +139,3 @@ sound C sized next ws e =
 pub sound-report : (C : Code) (next : Report) → Sound C → codeReport C true next ≡ next
 unfolding codeReport
 sound-report C next s = simp (s .k-ok, s .m-ok, le-ltb _ _ (s .first))
-
--- a card that is accepted with these k and m
-pub record Accepted (card : List ℕ) (k m : ℕ) : Type 0 where
-  pub is : codeOf card ≡ codeIn k m (columnBytes card)
-  pub sound : Sound (codeIn k m (columnBytes card))
-  pub size : length card ≡ cardLength m
-
-pub accepted-card : (card : List ℕ) (k m : ℕ) → cardReport card ≡ accepted (k ∷ m ∷ []) → Accepted card k m
-unfolding cardReport codeOf
-accepted-card card k m e =
-    let C = codeOf card in
-    let a = passed (ltb (length card) 2) 0 [] (k ∷ m ∷ []) _ e in
-    let s = sound C (eqb (length card) (cardLength (C .m))) (accepted (C .k ∷ C .m ∷ [])) (k ∷ m ∷ []) (a .1) in
-    let r : accepted (C .k ∷ C .m ∷ []) ≡ accepted (k ∷ m ∷ []) = s .2 in
-    let ek : getD card 0 0 ≡ k = ap (λ (x : Report). getD (x .values) 0 0) r in
-    let em : getD card 1 0 ≡ m = ap (λ (x : Report). getD (x .values) 1 0) r in
-    let is : C ≡ codeIn k m (columnBytes card) =
-    ap₂ (λ (x y : ℕ). codeIn x y (columnBytes card)) ek em in
-    record {
-      is = is;
-      sound = subst Sound is (s .0);
-      size = eqb-true (length card) (cardLength (C .m)) (s .1) ∙ ap cardLength em;
-    }
-
--- a card whose report has the number 0 is accepted with its own counts
-pub card-accepted : (card : List ℕ) → cardReport card .number ≡ 0 → cardReport card ≡ accepted (codeOf card .k ∷ codeOf card .m ∷ [])
-unfolding cardReport codeReport
-card-accepted card e =
-    let C = codeOf card in
-    let whole = accepted (C .k ∷ C .m ∷ []) in
-    let bad = firstBad (C .k) (C .columns) in
-    let a = passed-number (ltb (length card) 2) 0 [] (codeReport C (eqb (length card) (cardLength (C .m))) whole) e in
-    let b = passed-number (not (countOk (C .k))) 1 [] _ (a .1) in
-    let c = passed-number (not (countOk (C .m))) 2 [] _ (b .1) in
-    let d = passed-number (not (eqb (length card) (cardLength (C .m)))) 3 [] _ (c .1) in
-    a .2 ∙ b .2 ∙ c .2 ∙ d .2 ∙ passed-number (ltb bad (C .m)) 4 (bad ∷ []) whole (d .1) .2
-
-pub report-accepted : (card : List ℕ) (C : Code) → codeOf card ≡ C → Sound C → length card ≡ cardLength (C .m)
-    → cardReport card ≡ accepted (C .k ∷ C .m ∷ [])
-unfolding cardReport cardLength
-report-accepted card C is s size =
-    let long : 2 ≤ length card = omega arith in
-    let whole = accepted (C .k ∷ C .m ∷ []) in
-    simp (le-ltb _ _ long)
-    (ap (λ (D : Code). codeReport D (eqb (length card) (cardLength (D .m))) (accepted (D .k ∷ D .m ∷ []))) is
-    ∙ ap (λ (b : Bool). codeReport C b whole) (eq-eqb (length card) (cardLength (C .m)) size)
-    ∙ sound-report C whole s)

@@ -13,12 +13,13 @@ use Rattle.gf2.specs.Within.{lowest}
 use Rattle.gf2.proofs.Bits.{bit-pow-same, bit-pow-other, has-not, has-out}
 use Rattle.gf2.proofs.Subsets.{lowest-has, lowest-lt}
 use Rattle.gf2.proofs.Sums.{over-cong, over-zero, over-none, over-power}
-use Rattle.flat.specs.Cards.{Code, codeOf, disks, column, columnsIn, columnBytes}
+use Rattle.flat.specs.Cards.{Code, Card, codeOf, disks, column, columnsIn, columnBytes}
 use Rattle.flat.specs.Erasures.{holdsBit}
 use Rattle.flat.specs.Equations.{equation, equations}
 use Rattle.flat.specs.Faults.{accepted, cardReport}
 use Rattle.flat.specs.Theorems.{NoEquationEmpty, NoColumnNoEquation}
-use Rattle.flat.proofs.Cards.{accepted-card, column-in, none-bad, length-columns}
+use Rattle.flat.proofs.Cards.{column-in, none-bad, length-columns}
+use Rattle.flat.proofs.Editions.{accepted-card}
 use Rattle.flat.proofs.Members.{In, in-head}
 use Rattle.flat.proofs.Words.{holds-parity, by-disk, word-data}
 use Rattle.flat.proofs.Duality.{equation-out}
@@ -67,7 +68,7 @@ module _ (C : Code) where
           (λ j h g. one-parity d j l ∙ has-not (column C j) d (f j (omega arith)))
 
 -- the columns of an accepted card
-columns-ok : (card : List ℕ) (k m : ℕ) → cardReport card ≡ accepted (k ∷ m ∷ [])
+columns-ok : (card : Card) (k m : ℕ) → cardReport card ≡ accepted (k ∷ m ∷ [])
     → (j : ℕ) → j < codeOf card .m → (column (codeOf card) j ≢ 0) × (column (codeOf card) j < 2 ^ codeOf card .k)
 unfolding column
 columns-ok card k m ok =

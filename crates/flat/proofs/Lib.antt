@@ -2,6 +2,7 @@ pub mod Lists
 pub mod Reports
 pub mod Lengths
 pub mod Cards
+pub mod Editions
 pub mod RoundTrip
 pub mod Quantifiers
 pub mod Counts

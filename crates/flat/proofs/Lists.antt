@@ -9,11 +9,11 @@ use native.Mathlib.Omega.{arith}
 use native.Mathlib.Numerals.{add-one}
 use borrow.Author.Tests.{lt-ltb, le-ltb}
 use lib.Dec.{ltb}
-use lib.ListN.{length, getD, take, drop, set, replicate, length-append, length-drop, length-replicate, List·getD-append, List·getD-eq-default}
+use lib.ListN.{length, getD, take, drop, set, replicate, length-append, length-drop, length-replicate, length-take, List·getD-append, List·getD-eq-default}
 use lib.Seq.{take-at, set-at, append-snoc, getD-append-add, ext-getD, getD-take, getD-drop, length-take-le, drop-append-add, drop-drop, paste, paste-zero, take-all}
 use Rattle.gf2.specs.If.{if_then_else_}
 use Rattle.gf2.proofs.Tests.{below-or}
-use Rattle.flat.specs.Lists.{range, tabulate, padded, put, field}
+use Rattle.flat.specs.Lists.{range, tabulate, padded, put, field, Bytes}
 
 -- the bytes from n on, as code lends them
 pub rest : (n : ℕ) (l : List ℕ) → take (length l - n) (drop n l) ≡ drop n l
@@ -38,11 +38,17 @@ tabulate-cong zero f g e = refl
 tabulate-cong (suc n) f g e =
     ap₂ _∷_ (e 0 (omega arith)) (tabulate-cong n (λ i. f (suc i)) (λ i. g (suc i)) (λ i h. e (suc i) (omega arith)))
 
--- a table of zeros
-pub zeros : (n : ℕ) → replicate n 0 ≡ tabulate n (λ i. 0)
+-- a table of one number
+pub constant : (n v : ℕ) → replicate n v ≡ tabulate n (λ i. v)
 unfolding tabulate
-zeros zero = refl
-zeros (suc n) = ap (λ (xs : List ℕ). 0 ∷ xs) (zeros n)
+constant zero v = refl
+constant (suc n) v = ap (λ (xs : List ℕ). v ∷ xs) (constant n v)
+
+-- a list is the table of its entries
+pub entries : (xs : List ℕ) → tabulate (length xs) (λ i. getD xs i 0) ≡ xs
+unfolding tabulate
+entries [] = refl
+entries (x ∷ xs) = ap (λ (ys : List ℕ). x ∷ ys) (entries xs)
 
 -- a mapped range is a table
 pub map-range : (f : ℕ → ℕ) (a n : ℕ) → map f (range a n) ≡ tabulate n (λ i. f (a + i))
@@ -198,3 +204,12 @@ field-two zero (a ∷ []) = refl
 field-two zero (a ∷ b ∷ xs) = let z : a + 256 * (b + 256 * 0) ≡ a + 256 * b = omega arith in z
 field-two (suc at) [] = refl
 field-two (suc at) (a ∷ xs) = field-two at xs
+
+-- a part of a list of bytes
+pub bytes-part : (at n : ℕ) (xs : List ℕ) → Bytes xs → Bytes (take n (drop at xs))
+bytes-part at n xs b i = go (below-or i n)
+  where
+    go : (i < n) ⊎ (n ≤ i) → getD (take n (drop at xs)) i 0 < 256
+    go (inl l) = subst (λ (x : ℕ). x < 256) (sym (getD-take n (drop at xs) i 0 l ∙ getD-drop at xs i 0)) (b (at + i))
+    go (inr l) =
+        subst (λ (x : ℕ). x < 256) (sym (List·getD-eq-default (take n (drop at xs)) 0 (omega (arith, length-take n (drop at xs))))) (omega arith)

@@ -12,7 +12,7 @@ use lib.ListN.{length, getD}
 use Rattle.gf2.specs.If.{if_then_else_}
 use Rattle.gf2.specs.Sets.{has}
 use Rattle.gf2.proofs.Tests.{false-T, T-ext, if-true, if-false}
-use Rattle.flat.specs.Cards.{Code, codeOf, disks, setOk}
+use Rattle.flat.specs.Cards.{Code, Card, codeOf, disks, setOk}
 use Rattle.flat.specs.Strips.{lengthOk, byteOf, given}
 use Rattle.flat.specs.Erasures.{fatal, undeterminedSet}
 use Rattle.flat.specs.Rebuilding.{Agreeing, agrees, contents, agreeing, restored}
@@ -91,7 +91,7 @@ agreeing-alike C L S stripe other same =
     (λ c. T-ext (agrees-alike C L S stripe other same c) (agrees-alike C L S other stripe (λ i t l s h. sym (same i t l s h)) c))
 
 -- a report that goes by the contents that agree
-pub reports-alike : (card : List ℕ) (L S : ℕ) (stripe other : List ℕ) (next : Code → List (List ℕ) → Report) → length stripe ≡ length other
+pub reports-alike : (card : Card) (L S : ℕ) (stripe other : List ℕ) (next : Code → List (List ℕ) → Report) → length stripe ≡ length other
     → SameLeft (codeOf card) L S stripe other
     → withCard card (λ C. stripeTests C L S (length stripe) (next C (agreeing C L S stripe)))
     ≡ withCard card (λ C. stripeTests C L S (length other) (next C (agreeing C L S other)))
@@ -114,13 +114,13 @@ restored-alike C L S D stripe other same some i t l s h =
 -- ---- the rebuilder
 
 -- what is left to test for an accepted card, a set of its disks, a length and a stripe of that length
-pub rebuild-is : (card ws : List ℕ) (L S : ℕ) (stripe : List ℕ) → cardReport card ≡ accepted ws → T (lengthOk L) → T (setOk (codeOf card) S)
+pub rebuild-is : (card : Card) (ws : List ℕ) (L S : ℕ) (stripe : List ℕ) → cardReport card ≡ accepted ws → T (lengthOk L) → T (setOk (codeOf card) S)
     → length stripe ≡ disks (codeOf card) * L → rebuildReport card L S stripe ≡ disksReport (codeOf card) L S stripe
 unfolding rebuildReport rebuildTests
 rebuild-is card ws L S stripe = tests-are card L S (length stripe) (λ D. disksReport D L S stripe) ws
 
 -- where it accepts, the set is not fatal, some content agrees, and the lost disks are restored
-module _ (card : List ℕ) (L S : ℕ) (stripe : List ℕ) (e : rebuildReport card L S stripe .number ≡ 0) where
+module _ (card : Card) (L S : ℕ) (stripe : List ℕ) (e : rebuildReport card L S stripe .number ≡ 0) where
   past : (fatal (codeOf card) S ≡ false) × (survivorsReport S (agreeing (codeOf card) L S stripe) .number ≡ 0)
   unfolding rebuildReport rebuildTests disksReport
   past =

@@ -13,7 +13,7 @@ use lib.ListN.{length, getD, take, drop}
 use lib.Seq.{take-at}
 use Rattle.gf2.specs.If.{if_then_else_}
 use Rattle.gf2.proofs.Tests.{dec, T-false, eqb-in, eqb-out, below-or}
-use Rattle.flat.specs.Cards.{Code, codeOf}
+use Rattle.flat.specs.Cards.{Code, Card, codeOf}
 use Rattle.flat.specs.Faults.{Report, accepted, refused, unlessRefused, cardReport, withCard, listReport, listSlice}
 
 -- where a test refuses and the whole accepts, the test did not hold, and the rest accepts
@@ -65,12 +65,12 @@ as-refused r e =
     ap (λ (n : ℕ). refused n (r .values)) z
 
 -- an accepted card's code is what the call works on
-pub with-accepted : (card : List ℕ) (ws : List ℕ) (f : Code → Report) → cardReport card ≡ accepted ws → withCard card f ≡ f (codeOf card)
+pub with-accepted : (card : Card) (ws : List ℕ) (f : Code → Report) → cardReport card ≡ accepted ws → withCard card f ≡ f (codeOf card)
 unfolding withCard
 with-accepted card ws f e = unless-accepted (cardReport card) ws (f (codeOf card)) (cardReport card) e
 
 -- a call that takes a card has the number 0 only where the card's report has
-pub with-card : (card : List ℕ) (f : Code → Report) → withCard card f .number ≡ 0 → cardReport card .number ≡ 0
+pub with-card : (card : Card) (f : Code → Report) → withCard card f .number ≡ 0 → cardReport card .number ≡ 0
 unfolding withCard
 with-card card f e = ⊎-elim (eqb-out r 0) (λ g. absurd (g (eqb-in (sym (ap (λ (x : Report). x .number) (refusal g)) ∙ e)))) (dec (eqb r 0))
   where
@@ -80,16 +80,16 @@ with-card card f e = ⊎-elim (eqb-out r 0) (λ g. absurd (g (eqb-in (sym (ap (�
     refusal : (T (eqb r 0) → ⊥) → withCard card f ≡ cardReport card
     refusal g = unless-not (cardReport card) (f (codeOf card)) (cardReport card) (λ z. g (eqb-in z))
 
-pub with-number : (card : List ℕ) (f : Code → Report) → withCard card f .number ≡ 0 → withCard card f ≡ f (codeOf card)
+pub with-number : (card : Card) (f : Code → Report) → withCard card f .number ≡ 0 → withCard card f ≡ f (codeOf card)
 unfolding withCard
 with-number card f e = unless-number (cardReport card) (f (codeOf card)) (cardReport card) (with-card card f e)
 
 -- and is accepted only where the card is
-pub with-out : (card ws : List ℕ) (f : Code → Report) → withCard card f ≡ accepted ws → (cardReport card .number ≡ 0) × (f (codeOf card) ≡ accepted ws)
+pub with-out : (card : Card) (ws : List ℕ) (f : Code → Report) → withCard card f ≡ accepted ws → (cardReport card .number ≡ 0) × (f (codeOf card) ≡ accepted ws)
 with-out card ws f e = let n = ap (λ (x : Report). x .number) e in (with-card card f n, sym (with-number card f n) ∙ e)
 
 -- only the card's code matters
-pub with-cong : (card : List ℕ) (f g : Code → Report) → f (codeOf card) ≡ g (codeOf card) → withCard card f ≡ withCard card g
+pub with-cong : (card : Card) (f g : Code → Report) → f (codeOf card) ≡ g (codeOf card) → withCard card f ≡ withCard card g
 unfolding withCard
 with-cong card f g e = ap (λ (r : Report). unlessRefused (cardReport card) r (cardReport card)) e
 

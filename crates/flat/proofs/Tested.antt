@@ -9,7 +9,7 @@ use Prim.Native.Nat.{ℕ, _*_, _^_, _≤_, _<_}
 use borrow.Author.Tests.{not-false}
 use lib.Dec.{T, eqb}
 use Rattle.gf2.proofs.Tests.{true-T, T-true, T-false, eqb-in, eqb-out, ltb-out}
-use Rattle.flat.specs.Cards.{Code, codeOf, disks, setOk}
+use Rattle.flat.specs.Cards.{Code, Card, codeOf, disks, setOk}
 use Rattle.flat.specs.Strips.{lengthOk}
 use Rattle.flat.specs.Faults.{Report, accepted, refused, cardReport, withCard, stripeTests}
 use Rattle.flat.proofs.Reports.{passed-number, with-accepted, with-number}
@@ -62,7 +62,7 @@ module _ (C : Code) (L S n : ℕ) (next : Report) where
 
 -- ---- after the card's
 
-module _ (card : List ℕ) (L S n : ℕ) (next : Code → Report) where
+module _ (card : Card) (L S n : ℕ) (next : Code → Report) where
   abbrev report : Report
   report = withCard card (λ C. stripeTests C L S n (next C))
 

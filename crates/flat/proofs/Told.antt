@@ -28,7 +28,7 @@ use Rattle.flat.proofs.Undetermined.{held-set, set-held, undetermined-l
 use Rattle.flat.proofs.CheckWords.{equation-word, word-equation, equation-sum, no-disk}
 
 -- where some word of a span holds disk d, so does the row that `holder` finds
-holder-has : (d : ℕ) (bs : List ℕ) (w : ℕ) → InSpan bs w → T (has w d) → T (has (holder d bs) d) × InSpan bs (holder d bs)
+pub holder-has : (d : ℕ) (bs : List ℕ) (w : ℕ) → InSpan bs w → T (has w d) → T (has (holder d bs) d) × InSpan bs (holder d bs)
 unfolding holder
 holder-has d [] w s m = absurd (not-has w d (subst (λ (x : ℕ). bit x d ≡ 0) (sym s) (bit-of-zero d)) m)
 holder-has d (b ∷ bs) w s m = go (has b d) (λ t. t) (λ t. t) s (holder-has d bs)
@@ -42,7 +42,7 @@ holder-has d (b ∷ bs) w s m = go (has b d) (λ t. t) (λ t. t) s (holder-has d
         let r = rest (b ⊕ w) s (subst (λ (x : ℕ). T (has x d)) (⊕-comm w b) (⊕-left w b d m g)) in (r .0, inl (r .1))
 
 -- it finds a row that holds the disk, or none
-holder-or : (d : ℕ) (bs : List ℕ) → (T (has (holder d bs) d) × InSpan bs (holder d bs)) ⊎ (holder d bs ≡ 0)
+pub holder-or : (d : ℕ) (bs : List ℕ) → (T (has (holder d bs) d) × InSpan bs (holder d bs)) ⊎ (holder d bs ≡ 0)
 unfolding holder
 holder-or d [] = inr refl
 holder-or d (b ∷ bs) = go (has b d) (λ t. t) (holder-or d bs)
@@ -55,23 +55,21 @@ holder-or d (b ∷ bs) = go (has b d) (λ t. t) (holder-or d bs)
 
 module _ (C : Code) (S d : ℕ) (l : d < disks C) (s : T (has S d)) where
   -- the check words of survivors and d
-  words : List ℕ
+  abbrev pub words : List ℕ
   words = within (survivors C S ⊕ 2 ^ d) (checks C)
 
   lost : T (has (survivors C S) d) → ⊥
   lost t = survivor-out C S d t .1 s
 
   -- such a word that holds d, less d, is an equation among the survivors, and with d each equation is such a word
-  word-told : (w : ℕ) → T (has w d) × InSpan words w → T (w ∖ 2 ^ d ⊆ survivors C S) × T (equation C d (w ∖ 2 ^ d))
-  unfolding words
+  pub word-told : (w : ℕ) → T (has w d) × InSpan words w → T (w ∖ 2 ^ d ⊆ survivors C S) × T (equation C d (w ∖ 2 ^ d))
   word-told w (m, t) =
       let p = within-spans (survivors C S ⊕ 2 ^ d) (checks C) w .0 t in (
         subst (λ (x : ℕ). T (w ∖ 2 ^ d ⊆ x)) (plus-back (survivors C S) d lost) (less-⊆ w (survivors C S ⊕ 2 ^ d) (2 ^ d) (p .1)),
         word-equation C d l w (p .0) m,
       )
 
-  told-word : (E : ℕ) → T (E ⊆ survivors C S) → T (equation C d E) → InSpan words (E ⊕ 2 ^ d) × T (has (E ⊕ 2 ^ d) d)
-  unfolding words
+  pub told-word : (E : ℕ) → T (E ⊆ survivors C S) → T (equation C d E) → InSpan words (E ⊕ 2 ^ d) × T (has (E ⊕ 2 ^ d) d)
   told-word E t q =
       let span = equation-word C d l E (lt-of-le-of-lt (⊆-le E (survivors C S) t) (survivors-lt C S)) q in (
         within-spans (survivors C S ⊕ 2 ^ d) (checks C) (E ⊕ 2 ^ d) .1 (span, plus-⊆ E (survivors C S) d lost t),
@@ -80,11 +78,11 @@ module _ (C : Code) (S d : ℕ) (l : d < disks C) (s : T (has S d)) where
 
   -- so where d has an equation, `within` leaves one, and else none
   left-told : Told C S d → T (equationAmong C S d ⊆ survivors C S) × T (equation C d (equationAmong C S d))
-  unfolding equationAmong equationIn words
+  unfolding equationAmong equationIn
   left-told (E, t, q) = let r = told-word E t q in word-told (holder d words) (holder-has d words (E ⊕ 2 ^ d) (r .0) (r .1))
 
   left-none : (Told C S d → ⊥) → equationAmong C S d ≡ 0
-  unfolding equationAmong equationIn words
+  unfolding equationAmong equationIn
   left-none f =
       ⊎-elim (λ r. let e = word-told (holder d words) r in absurd (f (holder d words ∖ 2 ^ d, e .0, e .1)))
       (λ e. ap (λ (w : ℕ). w ∖ 2 ^ d) e ∙ ⊆-none 0 (2 ^ d) (zero-⊆ (2 ^ d))) (holder-or d words)

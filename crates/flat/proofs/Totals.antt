@@ -9,7 +9,7 @@ use lib.Dec.{eqb, ltb}
 use lib.ListN.{length, replicate}
 use Rattle.gf2.proofs.Tests.{dec, eqb-in, eqb-out, ltb-in, ltb-out}
 use Rattle.flat.specs.Lists.{sum, tabulate, filter, orderedBy, padded}
-use Rattle.flat.proofs.Lists.{zeros, tabulate-cong}
+use Rattle.flat.proofs.Lists.{constant, tabulate-cong}
 use Rattle.flat.proofs.Members.{In}
 use Rattle.flat.proofs.Filters.{filter-nil, filter-yes, filter-not, filter-all, filter-length}
 use Rattle.flat.proofs.Blocks.{block, ordered-length}
@@ -27,7 +27,7 @@ sum-raised (suc n) (suc k) f g h e r =
     let z : g 0 ≡ f 0 = r 0 (λ q. omega arith) in
     omega arith
 
-sum-zeros : (n : ℕ) (f : ℕ → ℕ) → ((v : ℕ) → f v ≡ 0) → sum (tabulate n f) ≡ 0
+pub sum-zeros : (n : ℕ) (f : ℕ → ℕ) → ((v : ℕ) → f v ≡ 0) → sum (tabulate n f) ≡ 0
 unfolding sum tabulate
 sum-zeros zero f h = omega arith
 sum-zeros (suc n) f h = omega (arith, h 0, sum-zeros n (λ i. f (suc i)) (λ v. h (suc v)))
@@ -42,7 +42,7 @@ pub sum-padded : (n : ℕ) (xs : List ℕ) → sum (padded n xs) ≡ sum xs
 unfolding padded
 sum-padded n xs =
     let k = n - length xs in
-    omega (arith, sum-append xs (replicate k 0), ap sum (zeros k), sum-zeros k (λ i. 0) (λ v. refl))
+    omega (arith, sum-append xs (replicate k 0), ap sum (constant k 0), sum-zeros k (λ i. 0) (λ v. refl))
 
 module _ (key : ℕ → ℕ) (b : ℕ) where
   abbrev many : List ℕ → ℕ → ℕ

@@ -15,13 +15,14 @@ use Rattle.gf2.proofs.Subsets.{⊆-refl, lowest-has}
 use Rattle.gf2.proofs.Sizes.{size-less, one-left-size}
 use Rattle.gf2.proofs.OneRow.{one-row}
 use Rattle.flat.specs.Lists.{tabulate, sum}
-use Rattle.flat.specs.Cards.{Code, codeOf, disks}
+use Rattle.flat.specs.Cards.{Code, Card, codeOf, disks}
 use Rattle.flat.specs.Erasures.{erasures, places, vector}
 use Rattle.flat.specs.Faults.{accepted, listReport, erasuresReport, erasuresVector}
 use Rattle.flat.specs.Spans.{codeword, rows}
 use Rattle.flat.proofs.Lists.{length-tabulate, map-range}
 use Rattle.flat.proofs.Reports.{unless-accepted, with-out, list-counted}
-use Rattle.flat.proofs.Cards.{accepted-card, card-accepted, count-in}
+use Rattle.flat.proofs.Cards.{count-in}
+use Rattle.flat.proofs.Editions.{accepted-card, card-accepted}
 use Rattle.flat.proofs.Rows.{rows-length, rows-indep}
 use Rattle.flat.proofs.Fatal.{word-below, minimal-out, fatal-in}
 use Rattle.flat.proofs.Members.{In, in-nil}
@@ -85,7 +86,7 @@ module _ (C : Code) where
       go (x ∷ l) R t = omega arith
 
 -- the numbers that the lister answers
-pub vector-answered : (card : List ℕ) (n count : ℕ) → erasuresReport card n ≡ accepted (count ∷ []) → (sum (erasuresVector card n) ≡ count) × (1 ≤ count)
+pub vector-answered : (card : Card) (n count : ℕ) → erasuresReport card n ≡ accepted (count ∷ []) → (sum (erasuresVector card n) ≡ count) × (1 ≤ count)
 unfolding erasuresReport erasuresVector
 vector-answered card n count e =
     let C = codeOf card in

@@ -13,7 +13,7 @@ use Rattle.gf2.specs.Sets.{has, _⊆_}
 use Rattle.gf2.proofs.Tests.{T-true, true-T, ltb-out}
 use Rattle.gf2.proofs.Subsets.{⊆-trans, ⊆-le}
 use Rattle.flat.specs.Lists.{member}
-use Rattle.flat.specs.Cards.{Code, codeOf, disks, setOk}
+use Rattle.flat.specs.Cards.{Code, Card, codeOf, disks, setOk}
 use Rattle.flat.specs.Erasures.{survivors, undeterminedSet, erasures}
 use Rattle.flat.specs.Equations.{equations}
 use Rattle.flat.specs.Faults.{accepted, refused, cardReport, verdictTests, verdictReport, listReport, listSlice, erasuresReport, erasuresSlice, equationsTests, equationsReport, equationsSlice}
@@ -23,7 +23,7 @@ use Rattle.flat.proofs.Quantifiers.{set-lt}
 use Rattle.flat.proofs.CheckWords.{equation-least}
 use Rattle.flat.proofs.EquationsListed as equated
 
-module _ (card : List ℕ) (k m : ℕ) (ok : cardReport card ≡ accepted (k ∷ m ∷ [])) where
+module _ (card : Card) (k m : ℕ) (ok : cardReport card ≡ accepted (k ∷ m ∷ [])) where
   abbrev C : Code
   C = codeOf card
 

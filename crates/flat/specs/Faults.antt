@@ -1,15 +1,16 @@
 -- Document 01, "Faults by their source": what each call answers, and what it leaves in a lent buffer, for every input.
 -- The tests of a call stand in the document's order.
 -- Assumes nothing.
-use mathlib.Core.Bool.{Bool, not}
+use mathlib.Core.Bool.{Bool, not, _&&_}
 use mathlib.Core.List.{List, [], _∷_, _++_}
-use Prim.Native.Nat.{ℕ, _*_}
+use Prim.Native.Nat.{ℕ, _+_, _*_}
 use lib.Dec.{eqb, ltb}
 use lib.ListN.{length, drop}
 use Rattle.gf2.specs.If.{if_then_else_}
 use Rattle.gf2.specs.Sets.{size}
-use Rattle.flat.specs.Lists.{padded}
-use Rattle.flat.specs.Cards.{Code, disks, setOk, countOk, firstBad, cardLength, cardBytes, codeOf}
+use Rattle.flat.specs.declared.Edition.{Edition}
+use Rattle.flat.specs.Lists.{member, padded}
+use Rattle.flat.specs.Cards.{Code, disks, setOk, countOk, firstBad, Card, editionBytes, editionLength, wearCount, start, firstByteOk, codeOf, wearsOf}
 use Rattle.flat.specs.Strips.{lengthOk, encoded}
 use Rattle.flat.specs.Erasures.{fatal, undeterminedSet, erasures, vector}
 use Rattle.flat.specs.Equations.{equations}
@@ -50,32 +51,40 @@ codeReport C sized next =
     if ltb (firstBad (C .k) (C .columns)) (C .m) then refused 5 (firstBad (C .k) (C .columns) ∷ []) else
     next
 
--- the card reader: k and m, and the columns in 16 places
-unfoldable pub cardReport : List ℕ → Report
-unfolding codeReport codeOf cardLength
+-- the card reader: k and m, the columns in 16 places, and the wears in 32
+unfoldable pub cardReport : Card → Report
+unfolding codeReport codeOf editionLength start firstByteOk wearsOf member
 cardReport card =
-    if ltb (length card) 2 then refused 1 [] else
-    codeReport (codeOf card) (eqb (length card) (cardLength (codeOf card .m))) (accepted (codeOf card .k ∷ codeOf card .m ∷ []))
+    if ltb (length (card .bytes)) (start (card .edition) + 2) then refused 1 [] else
+    if not (firstByteOk (card .edition) (card .bytes)) then refused 22 [] else
+    codeReport (codeOf card) (eqb (length (card .bytes)) (editionLength (card .edition) (codeOf card)))
+    (if member 0 (wearsOf card) then refused 23 [] else accepted (codeOf card .k ∷ codeOf card .m ∷ []))
 
-unfoldable pub cardColumns : List ℕ → List ℕ
+unfoldable pub cardColumns : Card → List ℕ
 unfolding padded unlessRefused cardReport codeOf
 cardColumns card = padded 16 (unlessRefused (cardReport card) (codeOf card .columns) [])
 
+unfoldable pub cardWears : Card → List ℕ
+unfolding padded unlessRefused cardReport wearsOf
+cardWears card = padded 32 (unlessRefused (cardReport card) (wearsOf card) [])
+
 -- what a call answers that takes a card: the card's refusal, else what it answers for the card's code
-unfoldable pub withCard : List ℕ → (Code → Report) → Report
+unfoldable pub withCard : Card → (Code → Report) → Report
 unfolding unlessRefused cardReport codeOf
 withCard card answer = unlessRefused (cardReport card) (answer (codeOf card)) (cardReport card)
 
--- the card writer, for a buffer of n bytes
-unfoldable pub cardWriteReport : Code → ℕ → Report
-unfolding codeReport cardLength
-cardWriteReport C n =
-    codeReport C (eqb (length (C .columns)) (C .m))
-    (if not (eqb n (cardLength (C .m))) then refused 7 [] else accepted [])
+-- the card writer, for a list of wears and a buffer of n bytes
+unfoldable pub cardWriteReport : Edition → Code → List ℕ → ℕ → Report
+unfolding codeReport editionLength wearCount disks member
+cardWriteReport edition C wears n =
+    codeReport C (eqb (length (C .columns)) (C .m) && eqb (length wears) (wearCount edition (disks C)))
+    (if member 0 wears then refused 23 [] else
+    if not (eqb n (editionLength edition C)) then refused 7 [] else
+    accepted [])
 
-unfoldable pub cardWriteBuffer : Code → List ℕ → List ℕ
-unfolding unlessRefused cardWriteReport cardBytes
-cardWriteBuffer C buffer = unlessRefused (cardWriteReport C (length buffer)) (cardBytes C) buffer
+unfoldable pub cardWriteBuffer : Edition → Code → List ℕ → List ℕ → List ℕ
+unfolding unlessRefused cardWriteReport editionBytes
+cardWriteBuffer edition C wears buffer = unlessRefused (cardWriteReport edition C wears (length buffer)) (editionBytes edition C wears) buffer
 
 -- ---- the encoder, for a stripe of n bytes
 
@@ -86,11 +95,11 @@ encodeTests C L n =
     if not (eqb n (disks C * L)) then refused 7 [] else
     accepted []
 
-unfoldable pub encodeReport : List ℕ → ℕ → ℕ → Report
+unfoldable pub encodeReport : Card → ℕ → ℕ → Report
 unfolding withCard encodeTests
 encodeReport card L n = withCard card (λ C. encodeTests C L n)
 
-unfoldable pub encodeStripe : List ℕ → ℕ → List ℕ → List ℕ
+unfoldable pub encodeStripe : Card → ℕ → List ℕ → List ℕ
 unfolding unlessRefused encodeReport encoded codeOf
 encodeStripe card L stripe = unlessRefused (encodeReport card L (length stripe)) (encoded (codeOf card) L stripe) stripe
 
@@ -100,7 +109,7 @@ unfoldable pub verdictTests : Code → ℕ → Report
 unfolding setOk undeterminedSet
 verdictTests C S = if not (setOk C S) then refused 8 [] else accepted (undeterminedSet C S ∷ [])
 
-unfoldable pub verdictReport : List ℕ → ℕ → Report
+unfoldable pub verdictReport : Card → ℕ → Report
 unfolding withCard verdictTests
 verdictReport card S = withCard card (λ C. verdictTests C S)
 
@@ -114,15 +123,15 @@ unfoldable pub listSlice : List ℕ → List ℕ → List ℕ
 listSlice list slice = list ++ drop (length list) slice
 
 -- the lister: the count, and the vector in 17 places
-unfoldable pub erasuresReport : List ℕ → ℕ → Report
+unfoldable pub erasuresReport : Card → ℕ → Report
 unfolding withCard listReport erasures
 erasuresReport card n = withCard card (λ C. listReport (erasures C) n)
 
-unfoldable pub erasuresVector : List ℕ → ℕ → List ℕ
+unfoldable pub erasuresVector : Card → ℕ → List ℕ
 unfolding padded unlessRefused erasuresReport vector codeOf
 erasuresVector card n = padded 17 (unlessRefused (erasuresReport card n) (vector (codeOf card)) [])
 
-unfoldable pub erasuresSlice : List ℕ → List ℕ → List ℕ
+unfoldable pub erasuresSlice : Card → List ℕ → List ℕ
 unfolding unlessRefused erasuresReport listSlice erasures codeOf
 erasuresSlice card slice =
     unlessRefused (erasuresReport card (length slice)) (listSlice (erasures (codeOf card)) slice) slice
@@ -132,11 +141,11 @@ unfoldable pub equationsTests : Code → ℕ → ℕ → Report
 unfolding disks listReport equations
 equationsTests C d n = if not (ltb d (disks C)) then refused 9 [] else listReport (equations C d) n
 
-unfoldable pub equationsReport : List ℕ → ℕ → ℕ → Report
+unfoldable pub equationsReport : Card → ℕ → ℕ → Report
 unfolding withCard equationsTests
 equationsReport card d n = withCard card (λ C. equationsTests C d n)
 
-unfoldable pub equationsSlice : List ℕ → ℕ → List ℕ → List ℕ
+unfoldable pub equationsSlice : Card → ℕ → List ℕ → List ℕ
 unfolding unlessRefused equationsReport listSlice equations codeOf
 equationsSlice card d slice =
     unlessRefused (equationsReport card d (length slice)) (listSlice (equations (codeOf card) d) slice) slice
@@ -167,17 +176,17 @@ unfoldable pub rebuildTests : Code → ℕ → ℕ → List ℕ → Report
 unfolding stripeTests disksReport
 rebuildTests C L S stripe = stripeTests C L S (length stripe) (disksReport C L S stripe)
 
-unfoldable pub rebuildReport : List ℕ → ℕ → ℕ → List ℕ → Report
+unfoldable pub rebuildReport : Card → ℕ → ℕ → List ℕ → Report
 unfolding withCard rebuildTests
 rebuildReport card L S stripe = withCard card (λ C. rebuildTests C L S stripe)
 
-unfoldable pub rebuildStripe : List ℕ → ℕ → ℕ → List ℕ → List ℕ
+unfoldable pub rebuildStripe : Card → ℕ → ℕ → List ℕ → List ℕ
 unfolding unlessRefused rebuildReport restored agreeing codeOf
 rebuildStripe card L S stripe =
     unlessRefused (rebuildReport card L S stripe) (restored (codeOf card) L S stripe (agreeing (codeOf card) L S stripe)) stripe
 
 -- ---- two cards alike: the first card's refusals come before the second's
 
-unfoldable pub alikeReport : List ℕ → List ℕ → Report
+unfoldable pub alikeReport : Card → Card → Report
 unfolding withCard yesNo alike
 alikeReport first second = withCard first (λ A. withCard second (λ B. accepted (yesNo (alike A B) ∷ [])))

@@ -8,7 +8,7 @@ use lib.Dec.{T}
 use lib.ListN.{length}
 use Rattle.gf2.specs.Sets.{has, _⊆_}
 use Rattle.flat.specs.Lists.{Bytes}
-use Rattle.flat.specs.Cards.{Code, codeOf, disks}
+use Rattle.flat.specs.Cards.{Code, Card, codeOf, disks}
 use Rattle.flat.specs.Strips.{byteOf, given}
 use Rattle.flat.specs.Erasures.{survivors, fatal, undeterminedSet, determinedSet}
 use Rattle.flat.specs.Equations.{equation}
@@ -67,7 +67,7 @@ AllRestoredFilled =
 -- Bytes of lost strips at entry affect neither the answer nor a strip that is rebuilt.
 abbrev pub LostBytesUnread : Type 0
 LostBytesUnread =
-    (card : List ℕ) (L S : ℕ) (stripe other : List ℕ) → length stripe ≡ length other
+    (card : Card) (L S : ℕ) (stripe other : List ℕ) → length stripe ≡ length other
     → ((i t : ℕ) → i < disks (codeOf card) → (T (has S i) → ⊥) → t < L → byteOf L stripe t i ≡ byteOf L other t i)
     → (rebuildReport card L S stripe ≡ rebuildReport card L S other)
     × (rebuildReport card L S stripe .number ≡ 0

@@ -10,29 +10,34 @@ use Rattle.gf2.specs.Sets.{has, size, _⊕_, _⊆_, union, over}
 use Rattle.gf2.specs.Span.{InSpan, Independent}
 use Rattle.gf2.specs.Within.{within}
 use Rattle.flat.specs.Lists.{Bytes, range, filter, sum, member, padded}
-use Rattle.flat.specs.Cards.{Code, code, codeOf, disks, column, dataPart}
+use Rattle.flat.specs.declared.Edition.{Edition}
+use Rattle.flat.specs.Cards.{Code, code, Card, cardOf, wearCount, eachWear, codeOf, disks, column, dataPart}
 use Rattle.flat.specs.Erasures.{holdsBit, survivors, fatal, undetermined, undeterminedSet, determinedSet, minimalErasure, erasures, vector}
 use Rattle.flat.specs.Equations.{equation, minimalEquation, equations, Precedes}
-use Rattle.flat.specs.Faults.{accepted, cardReport, cardColumns, cardWriteReport, cardWriteBuffer, erasuresReport, erasuresVector, equationsReport, equationsSlice}
+use Rattle.flat.specs.Faults.{accepted, cardReport, cardColumns, cardWears, cardWriteReport, cardWriteBuffer, erasuresReport, erasuresVector, equationsReport, equationsSlice}
 use Rattle.flat.specs.Spans.{codeword, rows, checks, erasuresByWord, equationsByParities}
 
 -- ---- cards (demand 2)
 
--- Reading what the card writer wrote gives k, m and the columns that it was given.
+-- Reading what the card writer wrote gives k, m, the columns and the wears that it was given, and wear 1 for the first edition.
 abbrev pub CardReadsBack : Type 0
 CardReadsBack =
-    (C : Code) (buffer : List ℕ) → cardWriteReport C (length buffer) ≡ accepted []
-    → (cardReport (cardWriteBuffer C buffer) ≡ accepted (C .k ∷ C .m ∷ []))
-    × (cardColumns (cardWriteBuffer C buffer) ≡ padded 16 (C .columns))
-    × (codeOf (cardWriteBuffer C buffer) ≡ C)
+    (e : Edition) (C : Code) (wears buffer : List ℕ) → cardWriteReport e C wears (length buffer) ≡ accepted []
+    → let card = cardOf e (cardWriteBuffer e C wears buffer) in
+    (cardReport card ≡ accepted (C .k ∷ C .m ∷ []))
+    × (cardColumns card ≡ padded 16 (C .columns))
+    × (cardWears card ≡ padded 32 (eachWear e (disks C) wears))
+    × (codeOf card ≡ C)
 
 -- Each accepted card is what the card writer writes, into any buffer of its length, from what the card reader answers.
 abbrev pub CardWritesBack : Type 0
 CardWritesBack =
-    (card : List ℕ) (k m : ℕ) → Bytes card → cardReport card ≡ accepted (k ∷ m ∷ [])
-    → (buffer : List ℕ) → length buffer ≡ length card
-    → (cardWriteReport (code k m (take m (cardColumns card))) (length buffer) ≡ accepted [])
-    × (cardWriteBuffer (code k m (take m (cardColumns card))) buffer ≡ card)
+    (card : Card) (k m : ℕ) → Bytes (card .bytes) → cardReport card ≡ accepted (k ∷ m ∷ [])
+    → (buffer : List ℕ) → length buffer ≡ length (card .bytes)
+    → let e = card .edition in
+    let C = code k m (take m (cardColumns card)) in
+    let wears = take (wearCount e (disks C)) (cardWears card) in
+    (cardWriteReport e C wears (length buffer) ≡ accepted []) × (cardWriteBuffer e C wears buffer ≡ card .bytes)
 
 -- ---- a code as two spans
 
@@ -149,7 +154,7 @@ VectorTotal = (C : Code) → (length (vector C) ≡ C .m + 1) × (sum (vector C)
 -- Of the 17 numbers that the lister answers: where it accepts, their total is the count that it answers, and never 0.
 abbrev pub VectorAnswered : Type 0
 VectorAnswered =
-    (card : List ℕ) (n count : ℕ) → erasuresReport card n ≡ accepted (count ∷ []) → (sum (erasuresVector card n) ≡ count) × (1 ≤ count)
+    (card : Card) (n count : ℕ) → erasuresReport card n ≡ accepted (count ∷ []) → (sum (erasuresVector card n) ≡ count) × (1 ≤ count)
 
 -- ---- the list of equations
 
@@ -186,13 +191,13 @@ EquationsEnumerated = (C : Code) (d : ℕ) → d < disks C → equations C d ≡
 -- No equation of a disk of an accepted card is empty, since no column is 0.
 abbrev pub NoEquationEmpty : Type 0
 NoEquationEmpty =
-    (card : List ℕ) (d E k m : ℕ) → cardReport card ≡ accepted (k ∷ m ∷ []) → d < disks (codeOf card)
+    (card : Card) (d E k m : ℕ) → cardReport card ≡ accepted (k ∷ m ∷ []) → d < disks (codeOf card)
     → T (equation (codeOf card) d E) → E ≢ 0
 
 -- A data disk in no column of an accepted card has no equation: its list is empty, and the call accepts every slice with count 0.
 abbrev pub NoColumnNoEquation : Type 0
 NoColumnNoEquation =
-    (card : List ℕ) (d k m : ℕ) → cardReport card ≡ accepted (k ∷ m ∷ []) → d < k
+    (card : Card) (d k m : ℕ) → cardReport card ≡ accepted (k ∷ m ∷ []) → d < k
     → ((j : ℕ) → j < m → T (has (column (codeOf card) j) d) → ⊥)
     → ((E : ℕ) → T (equation (codeOf card) d E) → ⊥)
     × (equations (codeOf card) d ≡ [])
@@ -211,7 +216,7 @@ MinimalSizes =
 -- the equation call writes for it lies among them, into any slice that it accepts.
 abbrev pub EquationListed : Type 0
 EquationListed =
-    (card slice : List ℕ) (S d k m count : ℕ) → cardReport card ≡ accepted (k ∷ m ∷ [])
+    (card : Card) (slice : List ℕ) (S d k m count : ℕ) → cardReport card ≡ accepted (k ∷ m ∷ [])
     → equationsReport card d (length slice) ≡ accepted (count ∷ [])
     → ((E : ℕ) × T (E ⊆ survivors (codeOf card) S) × T (equation (codeOf card) d E))
     ↔ ((E : ℕ) × T (member E (take count (equationsSlice card d slice))) × T (E ⊆ survivors (codeOf card) S))
@@ -219,7 +224,7 @@ EquationListed =
 -- Every slice at least as long as the list is accepted, and the count is the list's length.
 abbrev pub LongSlicesAccepted : Type 0
 LongSlicesAccepted =
-    (card : List ℕ) (n d k m : ℕ) → cardReport card ≡ accepted (k ∷ m ∷ [])
+    (card : Card) (n d k m : ℕ) → cardReport card ≡ accepted (k ∷ m ∷ [])
     → let es = erasures (codeOf card) in
     let qs = equations (codeOf card) d in
     (length es ≤ n → erasuresReport card n ≡ accepted (length es ∷ []))

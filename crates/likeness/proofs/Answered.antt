@@ -5,7 +5,7 @@ use mathlib.Core.Bool.{Bool, false}
 use mathlib.Core.List.{List, [], _∷_}
 use Prim.Native.Nat.{ℕ}
 use borrow.Author.Tests.{eq-eqb, ne-eqb}
-use Rattle.flat.specs.Cards.{Code, columnBytes, codeIn}
+use Rattle.flat.specs.Cards.{Code, Card, columnBytes, codeIn}
 use Rattle.flat.specs.Alike.{rearranged, alike}
 use Rattle.flat.specs.Faults.{Report, accepted, yesNo, withCard, alikeReport, cardReport}
 use Rattle.card.specs.declared.CardFault.{CardFault}
@@ -17,11 +17,11 @@ use Rattle.card.proofs.Callers.{GoodCard, good-with, bad-card}
 abbrev answer : Code → Code → Report
 answer A B = accepted (yesNo (alike A B) ∷ [])
 
-pub alike-first : (first second : List ℕ) (f : CardFault) → checkReport (Bad f) ≡ cardReport first → faultReport f ≡ alikeReport first second
+pub alike-first : (first second : Card) (f : CardFault) → checkReport (Bad f) ≡ cardReport first → faultReport f ≡ alikeReport first second
 unfolding alikeReport
 alike-first first second f e = sym (bad-card first f (λ A. withCard second (answer A)) e)
 
-module _ (first second : List ℕ) (k m : ℕ) (g : GoodCard first k m) where
+module _ (first second : Card) (k m : ℕ) (g : GoodCard first k m) where
   abbrev A : Code
   A = codeIn k m (columnBytes first)
 

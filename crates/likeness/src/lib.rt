@@ -1,19 +1,20 @@
 // Whether two cards are alike: the same counts of disks, and columns that are a rearrangement of each
 // other.
 //
-// Every two byte strings are legal arguments. What alike means is said in flat/specs/Alike.antt, and what
+// Every two byte strings, in either edition, are legal arguments. What alike means is said in flat/specs/Alike.antt, and what
 // is answered for which input in flat/specs/Faults.antt.
 ghost use mathlib.Core.Path.{_≡_};
 ghost use Prim.Native.Nat.{ℕ, _+_, _*_, _≤_};
 ghost use lib.Dec.{eqb};
 ghost use lib.ListN.{length};
-ghost use Rattle.flat.specs.Cards.{codeIn};
+ghost use Rattle.flat.specs.Cards.{codeIn, cardOf};
 ghost use Rattle.flat.specs.Alike.{rearranged};
 ghost use Rattle.flat.specs.Faults.{yesNo, alikeReport};
 ghost use Rattle.likeness.specs.Reports.{report};
 ghost use Rattle.likeness.specs.Forms.{standing};
 use card::CardCheck;
 use card::CardFault;
+use card::Edition;
 
 // Alike or not, or the fault of the first card that has one.
 pub enum Likeness {
@@ -62,13 +63,14 @@ fn rearranged(first: &[u8], second: &[u8], m: usize) -> bool
     true
 }
 
-// Whether two cards are alike. The first card's refusals come before the second's.
-pub fn alike(first: &[u8], second: &[u8]) -> Likeness
-    ensures { λ r. ⌜ report r ≡ alikeReport (now (first .entry)) (now (second .entry)) ⌝ }
+// Whether two cards are alike, the first in edition a and the second in edition b. The first card's
+// refusals come before the second's.
+pub fn alike(a: Edition, first: &[u8], b: Edition, second: &[u8]) -> Likeness
+    ensures { λ r. ⌜ report r ≡ alikeReport (cardOf a (now (first .entry))) (cardOf b (now (second .entry))) ⌝ }
 {
-    match card::check(first) {
+    match card::check(a, first) {
         CardCheck::Bad(fault) => Likeness::Card(fault),
-        CardCheck::Good { k, m } => match card::check(second) {
+        CardCheck::Good { k, m } => match card::check(b, second) {
             CardCheck::Bad(fault) => Likeness::Card(fault),
             CardCheck::Good { k: data, m: parity } => {
                 if k != data {
@@ -77,7 +79,7 @@ pub fn alike(first: &[u8], second: &[u8]) -> Likeness
                 if m != parity {
                     return Likeness::Different;
                 }
-                if rearranged(card::columns(first), card::columns(second), m) {
+                if rearranged(card::columns(a, first), card::columns(b, second), m) {
                     return Likeness::Alike;
                 }
                 Likeness::Different

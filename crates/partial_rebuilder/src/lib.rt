@@ -7,7 +7,7 @@
 ghost use mathlib.Core.Path.{_≡_};
 ghost use Prim.Native.Nat.{_+_, _*_, _^_, _<_, _≤_};
 ghost use lib.ListN.{length};
-ghost use Rattle.flat.specs.Cards.{codeIn};
+ghost use Rattle.flat.specs.Cards.{codeIn, cardOf};
 ghost use Rattle.flat.specs.Erasures.{undeterminedSet, determinedSet};
 ghost use Rattle.flat.specs.Rebuilding.{agreeing, restored};
 ghost use Rattle.flat.specs.Faults.{unlessRefused};
@@ -16,6 +16,7 @@ ghost use Rattle.partial_rebuilding.specs.Faults.{foundReport, partialTests, pa
 ghost use Rattle.partial_rebuilder.specs.Reports.{report};
 use card::CardCheck;
 use card::CardFault;
+use card::Edition;
 use restorer::StripeTest;
 
 // The answer: the lost disks that the survivors don't determine, the card's fault, a strip length that is
@@ -75,12 +76,25 @@ fn rebuild_columns(
 
 // A partial rebuild: the strips of the determined lost disks become those that every content gives which
 // agrees with the survivors, and all others keep their bytes.
-pub fn rebuild(card: &[u8], l: usize, lost: u32, stripe: &mut [u8]) -> PartlyRebuilt
-    ensures { λ r. ⌜ report r ≡ partialReport (now (card .entry)) l lost (now (stripe .entry)) ⌝ }
-    ensures { λ _. ⌜ now (stripe .exit) ≡ partialStripe (now (card .entry)) l lost (now (stripe .entry)) ⌝ }
+pub fn rebuild(
+    edition: Edition,
+    card: &[u8],
+    l: usize,
+    lost: u32,
+    stripe: &mut [u8],
+) -> PartlyRebuilt
+    ensures { λ r. ⌜ report r ≡ partialReport (cardOf edition (now (card .entry))) l lost (now (stripe .entry)) ⌝ }
+    ensures { λ _. ⌜ now (stripe .exit) ≡ partialStripe (cardOf edition (now (card .entry))) l lost (now (stripe .entry)) ⌝ }
 {
-    match card::check(card) {
+    match card::check(edition, card) {
         CardCheck::Bad(fault) => PartlyRebuilt::Card(fault),
-        CardCheck::Good { k, m } => rebuild_columns(card::columns(card), k, m, l, lost, stripe),
+        CardCheck::Good { k, m } => rebuild_columns(
+            card::columns(edition, card),
+            k,
+            m,
+            l,
+            lost,
+            stripe,
+        ),
     }
 }

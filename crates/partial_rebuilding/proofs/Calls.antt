@@ -9,7 +9,7 @@ use lib.Dec.{T}
 use lib.ListN.{length}
 use Rattle.gf2.specs.Sets.{has}
 use Rattle.gf2.proofs.Subsets.{⊆-refl}
-use Rattle.flat.specs.Cards.{Code, codeOf, disks, setOk}
+use Rattle.flat.specs.Cards.{Code, Card, codeOf, disks, setOk}
 use Rattle.flat.specs.Strips.{lengthOk, byteOf}
 use Rattle.flat.specs.Erasures.{undeterminedSet, determinedSet}
 use Rattle.flat.specs.Rebuilding.{Agreeing, agreeing, restored}
@@ -33,7 +33,7 @@ unfolding foundReport
 found-number U [] z e = omega arith
 found-number U (c ∷ cs) z e = cons≢nil e
 
-module _ (card : List ℕ) (L S : ℕ) (stripe : List ℕ) (e : partialReport card L S stripe .number ≡ 0) where
+module _ (card : Card) (L S : ℕ) (stripe : List ℕ) (e : partialReport card L S stripe .number ≡ 0) where
   accepted-found : agreeing (codeOf card) L S stripe ≢ []
   unfolding partialReport partialTests
   accepted-found =
@@ -61,7 +61,7 @@ unfolding restored
 restored-long C L D stripe [] e = refl
 restored-long C L D stripe (c ∷ cs) e = length-tabulate (disks C * L) _ ∙ sym e
 
-stripe-long : (card : List ℕ) (L S : ℕ) (stripe : List ℕ) → length stripe ≡ disks (codeOf card) * L → length (partialStripe card L S stripe) ≡ length stripe
+stripe-long : (card : Card) (L S : ℕ) (stripe : List ℕ) → length stripe ≡ disks (codeOf card) * L → length (partialStripe card L S stripe) ≡ length stripe
 unfolding partialStripe
 stripe-long card L S stripe e =
     unless-either (λ (s : List ℕ). length s ≡ length stripe) (partialReport card L S stripe) _ stripe
@@ -69,7 +69,7 @@ stripe-long card L S stripe e =
 
 -- ---- good arguments
 
-module _ (card : List ℕ) (k m S L : ℕ) (stripe : List ℕ) (ok : cardReport card ≡ accepted (k ∷ m ∷ [])) (set : T (setOk (codeOf card) S))
+module _ (card : Card) (k m S L : ℕ) (stripe : List ℕ) (ok : cardReport card ≡ accepted (k ∷ m ∷ [])) (set : T (setOk (codeOf card) S))
     (len : T (lengthOk L)) (whole : length stripe ≡ disks (codeOf card) * L) where
   abbrev C : Code
   C = codeOf card
@@ -119,13 +119,13 @@ partial-right = right
 found-never : (U : ℕ) (found : List (List ℕ)) → Not 11 (foundReport U found)
 unfolding foundReport
 found-never U [] = record { differs = λ e. omega arith }
-found-never U (c ∷ cs) = never-accepted 11 (omega arith) (U ∷ [])
+found-never U (c ∷ cs) = never-accepted 11 (omega arith, omega arith) (U ∷ [])
 
 pub never-fatal : NeverFatal
 unfolding partialReport partialTests
 never-fatal card L S stripe =
     let C = codeOf card in
-    let h : 5 < 11 = omega arith in
+    let h : (5 < 11) × (11 < 22) = (omega arith, omega arith) in
     never-with 11 h card (λ C. partialTests C L S stripe)
     (never-tests 11 h C L S (length stripe) (omega arith) (found-never (undeterminedSet C S) (agreeing C L S stripe))) .differs
 

@@ -9,7 +9,7 @@ use lib.Dec.{T}
 use lib.ListN.{length}
 use Rattle.gf2.proofs.Tests.{if-true}
 use Rattle.flat.specs.Lists.{Bytes}
-use Rattle.flat.specs.Cards.{codeOf, disks, setOk}
+use Rattle.flat.specs.Cards.{Card, codeOf, disks, setOk}
 use Rattle.flat.specs.Strips.{lengthOk}
 use Rattle.flat.specs.Erasures.{fatal, determinedSet}
 use Rattle.flat.specs.Rebuilding.{Agreeing, agrees}
@@ -27,7 +27,7 @@ unfolding fatal codeOf verdictReport
 verdict-told = record { fatal-15 = tt; some-15 = refl; some-6 = refl; all-127 = refl; none-7 = refl; outside-128 = refl }
 
 -- a fatal set of an accepted card: rebuilding gives 11
-fatal-report : (card : List ℕ) (k m S L : ℕ) (stripe : List ℕ) → cardReport card ≡ accepted (k ∷ m ∷ []) → T (setOk (codeOf card) S) → T (lengthOk L)
+fatal-report : (card : Card) (k m S L : ℕ) (stripe : List ℕ) → cardReport card ≡ accepted (k ∷ m ∷ []) → T (setOk (codeOf card) S) → T (lengthOk L)
     → length stripe ≡ disks (codeOf card) * L → T (fatal (codeOf card) S) → rebuildReport card L S stripe ≡ refused 11 []
 unfolding disksReport
 fatal-report card k m S L stripe ok set len whole t =

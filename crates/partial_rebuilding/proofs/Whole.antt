@@ -10,7 +10,7 @@ use lib.Dec.{T, eqb}
 use lib.ListN.{length}
 use Rattle.gf2.specs.If.{if_then_else_}
 use Rattle.gf2.proofs.Tests.{dec, eqb-in, eqb-out}
-use Rattle.flat.specs.Cards.{Code, codeOf, disks, setOk}
+use Rattle.flat.specs.Cards.{Code, Card, codeOf, disks, setOk}
 use Rattle.flat.specs.Strips.{lengthOk}
 use Rattle.flat.specs.Erasures.{fatal, undeterminedSet, determinedSet}
 use Rattle.flat.specs.Rebuilding.{agreeing, restored}
@@ -56,7 +56,7 @@ zeroed-tests C L S n r s e = go (not (lengthOk L)) (not (setOk C S)) (not (eqb n
     go false false true f = refl
     go false false false f = e f
 
-zeroed-card : (card : List ℕ) (r s : Code → Report) → (s (codeOf card) .number ≢ 11 → r (codeOf card) ≡ zeroed (s (codeOf card)))
+zeroed-card : (card : Card) (r s : Code → Report) → (s (codeOf card) .number ≢ 11 → r (codeOf card) ≡ zeroed (s (codeOf card)))
     → withCard card s .number ≢ 11 → withCard card r ≡ zeroed (withCard card s)
 unfolding withCard unlessRefused
 zeroed-card card r s e = go (eqb (cardReport card .number) 0) refl
@@ -73,7 +73,7 @@ none-left C S f =
 
 -- ---- both
 
-module _ (card : List ℕ) (L S : ℕ) (stripe : List ℕ) (f : rebuildReport card L S stripe .number ≢ 11) where
+module _ (card : Card) (L S : ℕ) (stripe : List ℕ) (f : rebuildReport card L S stripe .number ≢ 11) where
   abbrev C : Code
   C = codeOf card
 
@@ -117,11 +117,11 @@ disks-never : (b : Bool) (S : ℕ) (found : List (List ℕ)) → (T b → ⊥) �
 disks-never true S found f = absurd (f tt)
 disks-never false S found f = survivors-never S found
 
-safe-never : (card : List ℕ) (L S : ℕ) (stripe : List ℕ) → (T (fatal (codeOf card) S) → ⊥) → rebuildReport card L S stripe .number ≢ 11
+safe-never : (card : Card) (L S : ℕ) (stripe : List ℕ) → (T (fatal (codeOf card) S) → ⊥) → rebuildReport card L S stripe .number ≢ 11
 unfolding rebuildReport rebuildTests disksReport
 safe-never card L S stripe f =
     let C = codeOf card in
-    let h : 5 < 11 = omega arith in
+    let h : (5 < 11) × (11 < 22) = (omega arith, omega arith) in
     never-with 11 h card (λ C. rebuildTests C L S stripe)
     (never-tests 11 h C L S (length stripe) (omega arith) (disks-never (fatal C S) S (agreeing C L S stripe) f)) .differs
 

@@ -6,7 +6,7 @@
 use mathlib.Core.List.{List, [], _∷_}
 use Prim.Native.Nat.{ℕ}
 use lib.ListN.{length}
-use Rattle.flat.specs.Cards.{Code, codeOf}
+use Rattle.flat.specs.Cards.{Code, Card, codeOf}
 use Rattle.flat.specs.Erasures.{undeterminedSet, determinedSet}
 use Rattle.flat.specs.Rebuilding.{agreeing, restored}
 use Rattle.flat.specs.Faults.{Report, accepted, refused, unlessRefused, withCard, stripeTests}
@@ -20,12 +20,12 @@ unfoldable pub partialTests : Code → ℕ → ℕ → List ℕ → Report
 unfolding stripeTests foundReport undeterminedSet agreeing
 partialTests C L S stripe = stripeTests C L S (length stripe) (foundReport (undeterminedSet C S) (agreeing C L S stripe))
 
-unfoldable pub partialReport : List ℕ → ℕ → ℕ → List ℕ → Report
+unfoldable pub partialReport : Card → ℕ → ℕ → List ℕ → Report
 unfolding withCard partialTests
 partialReport card L S stripe = withCard card (λ C. partialTests C L S stripe)
 
 -- the determined disks are restored, and the strips of the others keep their bytes
-unfoldable pub partialStripe : List ℕ → ℕ → ℕ → List ℕ → List ℕ
+unfoldable pub partialStripe : Card → ℕ → ℕ → List ℕ → List ℕ
 unfolding unlessRefused partialReport restored determinedSet agreeing codeOf
 partialStripe card L S stripe =
     unlessRefused (partialReport card L S stripe)

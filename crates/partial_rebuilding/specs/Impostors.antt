@@ -4,17 +4,17 @@ use mathlib.Core.Path.{_≡_}
 use mathlib.Core.List.{List, [], _∷_}
 use Prim.Native.Nat.{ℕ}
 use lib.Dec.{T}
-use Rattle.flat.specs.Cards.{codeOf}
+use Rattle.flat.specs.Cards.{Card, editionOne, codeOf}
 use Rattle.flat.specs.Erasures.{fatal}
 use Rattle.flat.specs.Faults.{accepted, refused, verdictReport, rebuildReport}
 use Rattle.partial_rebuilding.specs.Faults.{partialReport, partialStripe}
 
 -- the cards of C1 and C6
-abbrev pub C1 : List ℕ
-C1 = 4 ∷ 3 ∷ 7 ∷ 0 ∷ 11 ∷ 0 ∷ 13 ∷ 0 ∷ []
+abbrev pub C1 : Card
+C1 = editionOne (4 ∷ 3 ∷ 7 ∷ 0 ∷ 11 ∷ 0 ∷ 13 ∷ 0 ∷ [])
 
-abbrev pub C6 : List ℕ
-C6 = 2 ∷ 1 ∷ 1 ∷ 0 ∷ []
+abbrev pub C6 : Card
+C6 = editionOne (2 ∷ 1 ∷ 1 ∷ 0 ∷ [])
 
 -- A verdict that is always empty, always the whole set, or the whole set where it is fatal: of C1's set 15, which is fatal, disk 0 is determined,
 -- and of C6's set 6 disk 2; of C1's set 127 no disk is, and of its set 7 every one. Or a verdict that takes a disk which the code lacks.

@@ -10,7 +10,7 @@ use Prim.Native.Nat.{ℕ, _*_, _<_}
 use lib.Dec.{T}
 use lib.ListN.{length}
 use Rattle.gf2.specs.Sets.{has}
-use Rattle.flat.specs.Cards.{Code, codeOf, disks, setOk}
+use Rattle.flat.specs.Cards.{Code, Card, codeOf, disks, setOk}
 use Rattle.flat.specs.Strips.{lengthOk, byteOf, given}
 use Rattle.flat.specs.Erasures.{undeterminedSet}
 use Rattle.flat.specs.Rebuilding.{Agreeing}
@@ -29,7 +29,7 @@ UndeterminedDiffer =
 -- ---- the call
 
 -- what it does for a content that agrees: each lost disk that is not undetermined becomes what that content gives, and the others keep their bytes
-pub record PartlyRestored (card : List ℕ) (S L : ℕ) (stripe content : List ℕ) : Type 0 where
+pub record PartlyRestored (card : Card) (S L : ℕ) (stripe content : List ℕ) : Type 0 where
   pub answer : partialReport card L S stripe ≡ accepted (undeterminedSet (codeOf card) S ∷ [])
   pub determined : (i t : ℕ) → i < disks (codeOf card) → t < L → T (has S i) → (T (has (undeterminedSet (codeOf card) S) i) → ⊥)
       → byteOf L (partialStripe card L S stripe) t i ≡ byteOf L (given (codeOf card) L content) t i
@@ -39,7 +39,7 @@ pub record PartlyRestored (card : List ℕ) (S L : ℕ) (stripe content : List �
       → byteOf L (partialStripe card L S stripe) t i ≡ byteOf L stripe t i
 
 -- 12 exactly where no content agrees; else it does this for each that agrees
-pub record RightPartial (card : List ℕ) (S L : ℕ) (stripe : List ℕ) : Type 0 where
+pub record RightPartial (card : Card) (S L : ℕ) (stripe : List ℕ) : Type 0 where
   pub none : (partialReport card L S stripe ≡ refused 12 []) ↔ ((content : List ℕ) → Agreeing (codeOf card) L S stripe content → ⊥)
   pub some : (content : List ℕ) → Agreeing (codeOf card) L S stripe content → PartlyRestored card S L stripe content
   pub decided : (partialReport card L S stripe ≡ refused 12 []) ⊎ ((content : List ℕ) × Agreeing (codeOf card) L S stripe content)
@@ -48,46 +48,46 @@ pub record RightPartial (card : List ℕ) (S L : ℕ) (stripe : List ℕ) : Type
 -- For every accepted card, set of its disks, fatal or not, L and stripe.
 abbrev pub PartialRight : Type 0
 PartialRight =
-    (card : List ℕ) (k m S L : ℕ) (stripe : List ℕ) → cardReport card ≡ accepted (k ∷ m ∷ []) → T (setOk (codeOf card) S) → T (lengthOk L)
+    (card : Card) (k m S L : ℕ) (stripe : List ℕ) → cardReport card ≡ accepted (k ∷ m ∷ []) → T (setOk (codeOf card) S) → T (lengthOk L)
     → length stripe ≡ disks (codeOf card) * L → RightPartial card S L stripe
 
 -- For an accepted card 6 comes first, then 8, then 7, whatever else is wrong.
-pub record RefusesInOrder (card : List ℕ) (L S : ℕ) (stripe : List ℕ) : Type 0 where
+pub record RefusesInOrder (card : Card) (L S : ℕ) (stripe : List ℕ) : Type 0 where
   pub six : (T (lengthOk L) → ⊥) → partialReport card L S stripe ≡ refused 6 []
   pub eight : T (lengthOk L) → (T (setOk (codeOf card) S) → ⊥) → partialReport card L S stripe ≡ refused 8 []
   pub seven : T (lengthOk L) → T (setOk (codeOf card) S) → length stripe ≢ disks (codeOf card) * L → partialReport card L S stripe ≡ refused 7 []
 
 abbrev pub PartialRefuses : Type 0
 PartialRefuses =
-    (card : List ℕ) (k m L S : ℕ) (stripe : List ℕ) → cardReport card ≡ accepted (k ∷ m ∷ []) → RefusesInOrder card L S stripe
+    (card : Card) (k m L S : ℕ) (stripe : List ℕ) → cardReport card ≡ accepted (k ∷ m ∷ []) → RefusesInOrder card L S stripe
 
 -- The verdict call refuses a set with a disk that the code lacks.
 abbrev pub VerdictRefuses : Type 0
 VerdictRefuses =
-    (card : List ℕ) (k m S : ℕ) → cardReport card ≡ accepted (k ∷ m ∷ []) → (T (setOk (codeOf card) S) → ⊥) → verdictReport card S ≡ refused 8 []
+    (card : Card) (k m S : ℕ) → cardReport card ≡ accepted (k ∷ m ∷ []) → (T (setOk (codeOf card) S) → ⊥) → verdictReport card S ≡ refused 8 []
 
 -- The second rebuild call never gives 11.
 abbrev pub NeverFatal : Type 0
-NeverFatal = (card : List ℕ) (L S : ℕ) (stripe : List ℕ) → partialReport card L S stripe .number ≢ 11
+NeverFatal = (card : Card) (L S : ℕ) (stripe : List ℕ) → partialReport card L S stripe .number ≢ 11
 
 -- it is rebuilding: it gives the refusals that rebuilding gives, else 0, and leaves the same stripe
-abbrev pub AsRebuilding : List ℕ → ℕ → ℕ → List ℕ → Type 0
+abbrev pub AsRebuilding : Card → ℕ → ℕ → List ℕ → Type 0
 AsRebuilding card L S stripe =
     (partialReport card L S stripe ≡ unlessRefused (rebuildReport card L S stripe) (accepted (0 ∷ [])) (rebuildReport card L S stripe))
     × (partialStripe card L S stripe ≡ rebuildStripe card L S stripe)
 
 -- Where nothing is undetermined.
 abbrev pub PartialWhole : Type 0
-PartialWhole = (card : List ℕ) (L S : ℕ) (stripe : List ℕ) → undeterminedSet (codeOf card) S ≡ 0 → AsRebuilding card L S stripe
+PartialWhole = (card : Card) (L S : ℕ) (stripe : List ℕ) → undeterminedSet (codeOf card) S ≡ 0 → AsRebuilding card L S stripe
 
 -- And wherever rebuilding does not give 11: so for every set the tests before that stand in the same order.
 abbrev pub PartialElsewhere : Type 0
-PartialElsewhere = (card : List ℕ) (L S : ℕ) (stripe : List ℕ) → rebuildReport card L S stripe .number ≢ 11 → AsRebuilding card L S stripe
+PartialElsewhere = (card : Card) (L S : ℕ) (stripe : List ℕ) → rebuildReport card L S stripe .number ≢ 11 → AsRebuilding card L S stripe
 
 -- Bytes of lost strips at entry affect neither the answer nor a strip that is restored.
 abbrev pub PartialBytesUnread : Type 0
 PartialBytesUnread =
-    (card : List ℕ) (L S : ℕ) (stripe other : List ℕ) → length stripe ≡ length other
+    (card : Card) (L S : ℕ) (stripe other : List ℕ) → length stripe ≡ length other
     → ((i t : ℕ) → i < disks (codeOf card) → (T (has S i) → ⊥) → t < L → byteOf L stripe t i ≡ byteOf L other t i)
     → (partialReport card L S stripe ≡ partialReport card L S other)
     × (partialReport card L S stripe .number ≡ 0

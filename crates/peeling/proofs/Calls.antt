@@ -10,7 +10,7 @@ use lib.Dec.{T, eqb, leb}
 use lib.ListN.{length, getD, replicate, length-map, List·getD-map, List·getD-append}
 use Rattle.gf2.proofs.Tests.{true-T, and-out, leb-out}
 use Rattle.flat.specs.Lists.{padded}
-use Rattle.flat.specs.Cards.{Code, codeOf, disks}
+use Rattle.flat.specs.Cards.{Code, Card, codeOf, disks}
 use Rattle.flat.specs.Strips.{lengthOk}
 use Rattle.flat.specs.Faults.{Report, accepted}
 use Rattle.flat.proofs.Reports.{passed-number, unless-number, with-number}
@@ -25,11 +25,11 @@ use Rattle.peeling.proofs.Trays.{tray-length, tray-count, tray-cut, tra
 
 -- ---- never 11 or 12
 
-tray-never : (x : ℕ) → 11 ≤ x → x ≤ 12 → (card : List ℕ) (L budget : ℕ) (Ss tray : List ℕ) → Not x (trayReport card L budget Ss tray)
+tray-never : (x : ℕ) → 11 ≤ x → x ≤ 12 → (card : Card) (L budget : ℕ) (Ss tray : List ℕ) → Not x (trayReport card L budget Ss tray)
 unfolding trayReport trayTests
 tray-never x low high card L budget Ss tray =
     let C = codeOf card in
-    let h : 5 < x = omega arith in
+    let h : (5 < x) × (x < 22) = (omega arith, omega arith) in
     never-with x h card (λ C. trayTests C L budget Ss tray)
     (never-test x h (not (lengthOk L)) 6 [] (λ e. omega arith)
     (never-test x h (not (trayOk (length Ss))) 17 [] (λ e. omega arith)
@@ -61,7 +61,7 @@ tested-out C L budget Ss tray e =
     let d = passed-number (not (eqb n (length Ss * (disks C * L)))) 6 [] (accepted (steps ∷ [])) (c .1) in
     (eqb-true n (length Ss * (disks C * L)) (not-false (eqb n (length Ss * (disks C * L))) (d .0)), a .2 ∙ b .2 ∙ c .2 ∙ d .2)
 
-module _ (card : List ℕ) (L budget : ℕ) (Ss tray : List ℕ) (ok : trayReport card L budget Ss tray .number ≡ 0) where
+module _ (card : Card) (L budget : ℕ) (Ss tray : List ℕ) (ok : trayReport card L budget Ss tray .number ≡ 0) where
   C : Code
   C = codeOf card
 

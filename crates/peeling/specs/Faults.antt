@@ -8,7 +8,7 @@ use lib.Dec.{eqb, leb}
 use lib.ListN.{length, getD}
 use Rattle.gf2.specs.If.{if_then_else_}
 use Rattle.flat.specs.Lists.{every, padded}
-use Rattle.flat.specs.Cards.{Code, codeOf, disks, setOk}
+use Rattle.flat.specs.Cards.{Code, Card, codeOf, disks, setOk}
 use Rattle.flat.specs.Strips.{lengthOk}
 use Rattle.flat.specs.Faults.{Report, accepted, refused, unlessRefused, withCard}
 use Rattle.peeling.specs.Trays.{trayPeeled, total, lefts, joined}
@@ -32,17 +32,17 @@ trayTests C L budget Ss tray =
     if not (eqb (length tray) (length Ss * (disks C * L))) then refused 7 [] else
     accepted (total (trayPeeled C L budget Ss tray) ∷ [])
 
-unfoldable pub trayReport : List ℕ → ℕ → ℕ → List ℕ → List ℕ → Report
+unfoldable pub trayReport : Card → ℕ → ℕ → List ℕ → List ℕ → Report
 unfolding withCard trayTests
 trayReport card L budget Ss tray = withCard card (λ C. trayTests C L budget Ss tray)
 
 -- what is left of each set, in 8 places
-unfoldable pub trayLefts : List ℕ → ℕ → ℕ → List ℕ → List ℕ → List ℕ
+unfoldable pub trayLefts : Card → ℕ → ℕ → List ℕ → List ℕ → List ℕ
 unfolding padded unlessRefused trayReport lefts trayPeeled codeOf
 trayLefts card L budget Ss tray =
     padded 8 (unlessRefused (trayReport card L budget Ss tray) (lefts (trayPeeled (codeOf card) L budget Ss tray)) [])
 
-unfoldable pub trayBytes : List ℕ → ℕ → ℕ → List ℕ → List ℕ → List ℕ
+unfoldable pub trayBytes : Card → ℕ → ℕ → List ℕ → List ℕ → List ℕ
 unfolding unlessRefused trayReport joined trayPeeled codeOf
 trayBytes card L budget Ss tray =
     unlessRefused (trayReport card L budget Ss tray) (joined (trayPeeled (codeOf card) L budget Ss tray)) tray

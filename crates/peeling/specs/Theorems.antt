@@ -8,7 +8,7 @@ use lib.Dec.{T}
 use lib.ListN.{length, getD, take, drop}
 use Rattle.gf2.specs.Sets.{has, size}
 use Rattle.flat.specs.Lists.{sum}
-use Rattle.flat.specs.Cards.{Code, codeOf, disks}
+use Rattle.flat.specs.Cards.{Code, Card, codeOf, disks}
 use Rattle.flat.specs.Strips.{byteOf, given}
 use Rattle.flat.specs.Erasures.{fatal}
 use Rattle.flat.specs.Rebuilding.{agrees}
@@ -131,13 +131,13 @@ TrayEnough =
 -- It never gives 11 or 12.
 abbrev pub NoDisksFault : Type 0
 NoDisksFault =
-    (card : List ℕ) (L budget : ℕ) (Ss tray : List ℕ)
+    (card : Card) (L budget : ℕ) (Ss tray : List ℕ)
     → (trayReport card L budget Ss tray .number ≢ 11) × (trayReport card L budget Ss tray .number ≢ 12)
 
 -- An accepted call: its steps are those of the rule, cut at the budget, and never more than the disks lost; the tray keeps its length; each stripe is
 -- peeled with what the stripes before it left of the budget, and so repaired; each strip that is not left lost is the one that every content
 -- agreeing with the survivors has; and where the budget is not too small every stripe is stuck.
-pub record TrayRight (card : List ℕ) (L budget : ℕ) (Ss tray : List ℕ) : Type 0 where
+pub record TrayRight (card : Card) (L budget : ℕ) (Ss tray : List ℕ) : Type 0 where
   pub steps : trayReport card L budget Ss tray ≡ accepted (min budget (total (trayPeeled (codeOf card) L (sizes Ss) Ss tray)) ∷ [])
   pub most : total (trayPeeled (codeOf card) L (sizes Ss) Ss tray) ≤ sizes Ss
   pub long : length (trayBytes card L budget Ss tray) ≡ length tray
@@ -156,5 +156,5 @@ pub record TrayRight (card : List ℕ) (L budget : ℕ) (Ss tray : List ℕ) : T
 
 abbrev pub TrayAccepted : Type 0
 TrayAccepted =
-    (card : List ℕ) (L budget : ℕ) (Ss tray : List ℕ) → trayReport card L budget Ss tray .number ≡ 0
+    (card : Card) (L budget : ℕ) (Ss tray : List ℕ) → trayReport card L budget Ss tray .number ≡ 0
     → TrayRight card L budget Ss tray

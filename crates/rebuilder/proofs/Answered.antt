@@ -4,7 +4,7 @@ use mathlib.Core.Path.{_≡_, sym, ap, _∙_}
 use mathlib.Core.List.{List}
 use Prim.Native.Nat.{ℕ}
 use lib.ListN.{length}
-use Rattle.flat.specs.Cards.{Code, code, codeOf, columnBytes, codeIn}
+use Rattle.flat.specs.Cards.{Code, code, Card, codeOf, columnBytes, codeIn}
 use Rattle.flat.specs.Rebuilding.{agreeing, restored}
 use Rattle.flat.specs.Faults.{Report, unlessRefused, cardReport, stripeTests, disksReport, rebuildTests, rebuildReport, rebuildStripe}
 use Rattle.card.specs.declared.CardFault.{CardFault}
@@ -19,12 +19,12 @@ pub tests-report : (k m : ℕ) (columns : List ℕ) (L S : ℕ) (stripe : List �
 unfolding rebuildTests
 tests-report k m columns L S stripe r e = e
 
-pub good-report : (card : List ℕ) (k m L S : ℕ) (stripe : List ℕ) → GoodCard card k m
+pub good-report : (card : Card) (k m L S : ℕ) (stripe : List ℕ) → GoodCard card k m
     → rebuildReport card L S stripe ≡ rebuildTests (codeIn k m (columnBytes card)) L S stripe
 unfolding rebuildReport
 good-report card k m L S stripe g = good-with card k m (λ C. rebuildTests C L S stripe) g
 
-pub good-stripe : (card : List ℕ) (k m L S : ℕ) (stripe : List ℕ) (r : Report) → GoodCard card k m → r ≡ rebuildReport card L S stripe
+pub good-stripe : (card : Card) (k m L S : ℕ) (stripe : List ℕ) (r : Report) → GoodCard card k m → r ≡ rebuildReport card L S stripe
     → unlessRefused r (restored (codeIn k m (columnBytes card)) L S stripe (agreeing (codeIn k m (columnBytes card)) L S stripe)) stripe
     ≡ rebuildStripe card L S stripe
 unfolding rebuildStripe
@@ -32,10 +32,10 @@ good-stripe card k m L S stripe r g e =
     ap (λ (C : Code). unlessRefused r (restored C L S stripe (agreeing C L S stripe)) stripe) (sym (g .is))
     ∙ ap (λ (x : Report). unlessRefused x (restored (codeOf card) L S stripe (agreeing (codeOf card) L S stripe)) stripe) e
 
-pub bad-report : (card : List ℕ) (f : CardFault) (L S : ℕ) (stripe : List ℕ) → checkReport (Bad f) ≡ cardReport card → faultReport f ≡ rebuildReport card L S stripe
+pub bad-report : (card : Card) (f : CardFault) (L S : ℕ) (stripe : List ℕ) → checkReport (Bad f) ≡ cardReport card → faultReport f ≡ rebuildReport card L S stripe
 unfolding rebuildReport
 bad-report card f L S stripe e = sym (bad-card card f (λ C. rebuildTests C L S stripe) e)
 
-pub bad-stripe : (card : List ℕ) (f : CardFault) (L S : ℕ) (stripe : List ℕ) → checkReport (Bad f) ≡ cardReport card → stripe ≡ rebuildStripe card L S stripe
+pub bad-stripe : (card : Card) (f : CardFault) (L S : ℕ) (stripe : List ℕ) → checkReport (Bad f) ≡ cardReport card → stripe ≡ rebuildStripe card L S stripe
 unfolding rebuildStripe
 bad-stripe card f L S stripe e = sym (unless-fault f (rebuildReport card L S stripe) _ stripe (bad-report card f L S stripe e))

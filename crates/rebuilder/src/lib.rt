@@ -6,13 +6,14 @@
 ghost use mathlib.Core.Path.{_≡_};
 ghost use Prim.Native.Nat.{_+_, _*_, _^_, _<_, _≤_};
 ghost use lib.ListN.{length};
-ghost use Rattle.flat.specs.Cards.{codeIn};
+ghost use Rattle.flat.specs.Cards.{codeIn, cardOf};
 ghost use Rattle.flat.specs.Rebuilding.{agreeing, restored};
 ghost use Rattle.flat.specs.Faults.{unlessRefused, disksReport, rebuildTests, rebuildReport, rebuildStripe};
 ghost use Rattle.card.specs.Columns.{Columns};
 ghost use Rattle.rebuilder.specs.Reports.{report};
 use card::CardCheck;
 use card::CardFault;
+use card::Edition;
 use restorer::StripeTest;
 
 // The rebuilder's answer: how many disks were lost, the card's fault, a strip length that is none, a set
@@ -67,12 +68,19 @@ fn rebuild_columns(
 }
 
 // The rebuilder: the lost strips become those of the only content that agrees with the survivors.
-pub fn rebuild(card: &[u8], l: usize, lost: u32, stripe: &mut [u8]) -> Rebuilt
-    ensures { λ r. ⌜ report r ≡ rebuildReport (now (card .entry)) l lost (now (stripe .entry)) ⌝ }
-    ensures { λ _. ⌜ now (stripe .exit) ≡ rebuildStripe (now (card .entry)) l lost (now (stripe .entry)) ⌝ }
+pub fn rebuild(edition: Edition, card: &[u8], l: usize, lost: u32, stripe: &mut [u8]) -> Rebuilt
+    ensures { λ r. ⌜ report r ≡ rebuildReport (cardOf edition (now (card .entry))) l lost (now (stripe .entry)) ⌝ }
+    ensures { λ _. ⌜ now (stripe .exit) ≡ rebuildStripe (cardOf edition (now (card .entry))) l lost (now (stripe .entry)) ⌝ }
 {
-    match card::check(card) {
+    match card::check(edition, card) {
         CardCheck::Bad(fault) => Rebuilt::Card(fault),
-        CardCheck::Good { k, m } => rebuild_columns(card::columns(card), k, m, l, lost, stripe),
+        CardCheck::Good { k, m } => rebuild_columns(
+            card::columns(edition, card),
+            k,
+            m,
+            l,
+            lost,
+            stripe,
+        ),
     }
 }

@@ -10,8 +10,9 @@ use lib.Seq.{length-take-le}
 use Rattle.gf2.specs.If.{if_then_else_}
 use Rattle.gf2.specs.Sets.{has}
 use Rattle.flat.specs.Lists.{Bytes, bytes, number, field}
+use Rattle.flat.proofs.Lists.{bytes-part}
 use Rattle.record_format.specs.Records.{entry, bodyAt, stripEntry}
-use Rattle.record_format.proofs.Numbers.{length-bytes, number-bytes, bytes-number, bytes-part}
+use Rattle.record_format.proofs.Numbers.{length-bytes, number-bytes, bytes-number}
 use Rattle.record_format.proofs.Standing.{Stands, stands-self, stands-whole, stands-take, take-stands, stands-join, stands-left, stands-right}
 
 -- a number where its bytes stand

@@ -11,10 +11,11 @@ use lib.ListN.{length, getD, take, drop}
 use Rattle.gf2.specs.If.{if_then_else_}
 use Rattle.gf2.specs.Sets.{has}
 use Rattle.flat.specs.Lists.{field}
-use Rattle.flat.specs.Cards.{Code, disks, setOk, cardLength, codeOf}
+use Rattle.flat.specs.Cards.{Code, disks, setOk, cardLength, codeOf, editionOne}
 use Rattle.flat.specs.Strips.{lengthOk}
 use Rattle.flat.specs.Faults.{Report, accepted, cardReport}
-use Rattle.flat.proofs.Cards.{Accepted, accepted-card, count-in}
+use Rattle.flat.proofs.Cards.{count-in}
+use Rattle.flat.proofs.Editions.{Accepted, accepted-card, one-size}
 use Rattle.flat.proofs.Quantifiers.{set-is}
 use Rattle.flat.proofs.Lengths.{length-in}
 use Rattle.record_format.specs.Records.{entryCount, bodiesAt, stripsAt, bodyAt, recordLength, entry, stripEntry, lengthIn, entryCountIn, entryIn, offsetIn, bodyLengthIn, bodyIn, lostIn}
@@ -34,29 +35,32 @@ kind start L S i = go (has S i)
     go true = refl
     go false = refl
 
-module _ (card : List ℕ) (L S : ℕ) (stripe file : List ℕ) (ok : cardReport card ≡ accepted (codeOf card .k ∷ codeOf card .m ∷ []))
-    (long : lengthOk L ≡ true) (set : setOk (codeOf card) S ≡ true) (size : length file ≡ recordLength (codeOf card) L S)
-    (laid : Laid card (disks (codeOf card)) L S stripe file) where
+module _ (card : List ℕ) (L S : ℕ) (stripe file : List ℕ) (ok : cardReport (editionOne card) ≡ accepted (codeOf (editionOne card) .k ∷ codeOf (editionOne card) .m ∷ []))
+    (long : lengthOk L ≡ true) (set : setOk (codeOf (editionOne card)) S ≡ true) (size : length file ≡ recordLength (codeOf (editionOne card)) L S)
+    (laid : Laid card (disks (codeOf (editionOne card))) L S stripe file) where
   abbrev C : Code
-  C = codeOf card
+  C = codeOf (editionOne card)
 
   abbrev n : ℕ
   n = disks C
 
-  known : Accepted card (C .k) (C .m)
-  known = accepted-card card (C .k) (C .m) ok
+  known : Accepted (editionOne card) (C .k) (C .m)
+  known = accepted-card (editionOne card) (C .k) (C .m) ok
 
   few : (1 ≤ C .k) × (C .k ≤ 16) × (1 ≤ C .m) × (C .m ≤ 16)
   few = let a = count-in (C .k) (known .sound .k-ok) in let b = count-in (C .m) (known .sound .m-ok) in (a .0, a .1, b .0, b .1)
 
+  sized : length card ≡ cardLength (C .m)
+  sized = one-size card (C .k) (C .m) known
+
   -- where the first strip's body goes
   at-start : stripsAt n (length card) ≡ stripsAt n (cardLength (C .m))
-  at-start = ap (stripsAt n) (known .size)
+  at-start = ap (stripsAt n) sized
 
   -- the contents and the card lie within the file
   card-inside : bodiesAt (entryCount n) + length card ≤ length file
   unfolding recordLength bodyAt stripsAt
-  card-inside = omega (arith, size, known .size)
+  card-inside = omega (arith, size, sized)
 
   -- ---- the fields
 
@@ -81,7 +85,7 @@ module _ (card : List ℕ) (L S : ℕ) (stripe file : List ℕ) (ok : cardReport
 
   card-length : bodyLengthIn file 0 ≡ length card
   unfolding bodyLengthIn cardLength
-  card-length = ap (field 6 4) card-entry ∙ entry-length 0 0 (bodiesAt (entryCount n)) (length card) (omega (arith, few, known .size))
+  card-length = ap (field 6 4) card-entry ∙ entry-length 0 0 (bodiesAt (entryCount n)) (length card) (omega (arith, few, sized))
 
   pub card-is : bodyIn file 0 ≡ card
   unfolding bodyIn
@@ -116,15 +120,15 @@ module _ (card : List ℕ) (L S : ℕ) (stripe file : List ℕ) (ok : cardReport
     entries-ok = entries-in file (entries-ok .0) (entries-ok .1) (entries-ok .2);
     card-entry-ok = card-entry-in file (card-byte 0 0 refl) (card-byte 1 0 refl) (card-at ∙ ap bodiesAt (sym many))
         (omega (arith, card-inside, card-at, card-length));
-    card-ok = ap (λ (c : List ℕ). cardReport c .number) card-is ∙ ap (λ (r : Report). r .number) ok;
-    count-ok = eq-eqb _ _ (many ∙ ap (λ (c : List ℕ). entryCount (disks (codeOf c))) (sym card-is));
+    card-ok = ap (λ (c : List ℕ). cardReport (editionOne c) .number) card-is ∙ ap (λ (r : Report). r .number) ok;
+    count-ok = eq-eqb _ _ (many ∙ ap (λ (c : List ℕ). entryCount (disks (codeOf (editionOne c)))) (sym card-is));
     strips-ok = strips-in file _ _ _ _ (λ i l. rw (card-is, strip-length, lost) (strip-entry i (rw card-is at l)));
-    size-ok = eq-eqb (length file) (recordLength (codeOf (bodyIn file 0)) (lengthIn file) (lostIn (disks (codeOf (bodyIn file 0))) file))
+    size-ok = eq-eqb (length file) (recordLength (codeOf (editionOne (bodyIn file 0))) (lengthIn file) (lostIn (disks (codeOf (editionOne (bodyIn file 0)))) file))
         (rw (card-is, strip-length, lost) size);
   }
 
   pub laid-read : recordReport file ≡ accepted (C .k ∷ C .m ∷ L ∷ S ∷ [])
   unfolding recordReport readReport
   laid-read =
-      with-passed file (readReport file) all-passed ∙ ap (λ (c : List ℕ). readReport file (codeOf c)) card-is
+      with-passed file (readReport file) all-passed ∙ ap (λ (c : List ℕ). readReport file (codeOf (editionOne c))) card-is
       ∙ ap₂ (λ (x y : ℕ). accepted (C .k ∷ C .m ∷ x ∷ y ∷ [])) strip-length lost

@@ -1,15 +1,13 @@
 -- Numbers in bytes, and lists compared.
 -- Assumes nothing.
-use mathlib.Core.Path.{_≡_, refl, sym, ap, ap₂, _∙_, subst}
+use mathlib.Core.Path.{_≡_, refl, ap, ap₂, _∙_}
 use mathlib.Core.List.{List, [], _∷_}
-use mathlib.Core.Logic.{_⊎_, inl, inr}
-use Prim.Native.Nat.{ℕ, zero, suc, _+_, _*_, _/_, _%_, _^_, _≤_, _<_}
+use Prim.Native.Nat.{ℕ, zero, suc, _+_, _*_, _/_, _%_, _^_, _<_}
 use native.Mathlib.Nat.{pow-suc}
 use native.Mathlib.Omega.{arith}
 use lib.Dec.{T, eqb, eqb-refl}
-use lib.ListN.{length, getD, take, drop, length-take, List·getD-eq-default}
-use lib.Seq.{getD-take, getD-drop}
-use Rattle.gf2.proofs.Tests.{and-in, and-out, eqb-out, below-or}
+use lib.ListN.{length}
+use Rattle.gf2.proofs.Tests.{and-in, and-out, eqb-out}
 use Rattle.flat.specs.Lists.{Bytes, same, bytes, number}
 
 -- ---- numbers in bytes
@@ -39,15 +37,6 @@ bytes-number (suc n) (x ∷ xs) b e =
     let low : (x + 256 * number xs) % 256 ≡ x = omega arith in
     let rest : (x + 256 * number xs) / 256 ≡ number xs = omega arith in
     ap₂ _∷_ low (ap (bytes n) rest ∙ bytes-number n xs (λ i. b (suc i)) (omega arith))
-
--- a part of a list of bytes
-pub bytes-part : (at n : ℕ) (xs : List ℕ) → Bytes xs → Bytes (take n (drop at xs))
-bytes-part at n xs b i = go (below-or i n)
-  where
-    go : (i < n) ⊎ (n ≤ i) → getD (take n (drop at xs)) i 0 < 256
-    go (inl l) = subst (λ (x : ℕ). x < 256) (sym (getD-take n (drop at xs) i 0 l ∙ getD-drop at xs i 0)) (b (at + i))
-    go (inr l) =
-        subst (λ (x : ℕ). x < 256) (sym (List·getD-eq-default (take n (drop at xs)) 0 (omega (arith, length-take n (drop at xs))))) (omega arith)
 
 -- ---- lists compared
 

@@ -13,11 +13,12 @@ use Rattle.gf2.specs.If.{if_then_else_}
 use Rattle.gf2.specs.Sets.{has}
 use Rattle.gf2.proofs.Tests.{if-false}
 use Rattle.flat.specs.Lists.{field}
-use Rattle.flat.specs.Cards.{Code, disks, cardLength, codeOf}
+use Rattle.flat.specs.Cards.{Code, Card, disks, cardLength, codeOf, editionOne}
 use Rattle.flat.specs.Strips.{lengthOk}
 use Rattle.flat.specs.Faults.{Report, accepted, refused, unlessRefused, cardReport, withCard}
 use Rattle.flat.proofs.Reports.{passed, with-accepted, with-out}
-use Rattle.flat.proofs.Cards.{accepted-card, card-accepted, count-in}
+use Rattle.flat.proofs.Cards.{count-in}
+use Rattle.flat.proofs.Editions.{accepted-card, card-accepted, one-size}
 use Rattle.flat.proofs.Quantifiers.{set-lt}
 use Rattle.flat.proofs.Lengths.{length-in}
 use Rattle.record_format.specs.Records.{mark, entryCount, bodiesAt, stripsAt, bodyAt, recordLength, entry, stripEntry, lengthIn, entryCountIn, entryIn, offsetIn, bodyLengthIn, bodyIn, markOk, entriesOk, cardEntryOk, lostIn, stripEntriesOk}
@@ -30,7 +31,7 @@ use Rattle.record_format.proofs.Tests.{mark-out, card-entry-out, strips
 
 -- the card's code, and where its first strip's body goes
 abbrev pub C : List ℕ → Code
-C file = codeOf (bodyIn file 0)
+C file = codeOf (editionOne (bodyIn file 0))
 
 abbrev pub start : Code → ℕ
 start D = stripsAt (disks D) (cardLength (D .m))
@@ -40,7 +41,7 @@ pub record Passed (file : List ℕ) : Type 0 where
   pub length-ok : lengthOk (lengthIn file) ≡ true
   pub entries-ok : entriesOk file ≡ true
   pub card-entry-ok : cardEntryOk file ≡ true
-  pub card-ok : cardReport (bodyIn file 0) .number ≡ 0
+  pub card-ok : cardReport (editionOne (bodyIn file 0)) .number ≡ 0
   pub count-ok : eqb (entryCountIn file) (entryCount (disks (C file))) ≡ true
   pub strips-ok : stripEntriesOk (disks (C file)) (start (C file)) (lengthIn file) (lostIn (disks (C file)) file) file ≡ true
   pub size-ok : eqb (length file) (recordLength (C file) (lengthIn file) (lostIn (disks (C file)) file)) ≡ true
@@ -57,7 +58,7 @@ passed-all file ws answer e =
     let b = passed (not (lengthOk (lengthIn file))) 5 [] ws _ (a .1) in
     let c = passed (not (entriesOk file)) 13 [] ws _ (b .1) in
     let d = passed (not (cardEntryOk file)) 13 [] ws _ (c .1) in
-    let w = with-out (bodyIn file 0) ws (after-card file answer) (d .1) in
+    let w = with-out (editionOne (bodyIn file 0)) ws (after-card file answer) (d .1) in
     let f = passed (not (eqb (entryCountIn file) (entryCount (disks (C file))))) 13 [] ws _ (w .1) in
     let g = passed (not (stripEntriesOk (disks (C file)) (start (C file)) (lengthIn file) (lostIn (disks (C file)) file) file)) 13 [] ws _ (f .1) in
     let h = passed (not (eqb (length file) (recordLength (C file) (lengthIn file) (lostIn (disks (C file)) file)))) 14 [] ws _ (g .1) in (
@@ -79,7 +80,7 @@ pub with-passed : (file : List ℕ) (answer : Code → Report) → Passed file �
 unfolding withRecord stripsReport
 with-passed file answer p =
     simp (p .mark-ok, p .length-ok, p .entries-ok, p .card-entry-ok)
-    (with-accepted (bodyIn file 0) (C file .k ∷ C file .m ∷ []) (after-card file answer) (card-accepted (bodyIn file 0) (p .card-ok))
+    (with-accepted (editionOne (bodyIn file 0)) (C file .k ∷ C file .m ∷ []) (after-card file answer) (card-accepted (editionOne (bodyIn file 0)) (p .card-ok))
     ∙ simp (p .count-ok, p .strips-ok, p .size-ok))
 
 pub with-received : (file : List ℕ) (k m L S : ℕ) → recordReport file ≡ accepted (k ∷ m ∷ L ∷ S ∷ []) → (answer : Code → Report)
@@ -101,7 +102,7 @@ carried : (b : Bool) (r rest other new : Report) → (rest ≡ new → other ≡
 carried true r rest other new f e = e
 carried false r rest other new f e = f e
 
-carried-card : (card : List ℕ) (f g : Code → Report) (new : Report) → (f (codeOf card) ≡ new → g (codeOf card) ≡ new) → withCard card f ≡ new
+carried-card : (card : Card) (f g : Code → Report) (new : Report) → (f (codeOf card) ≡ new → g (codeOf card) ≡ new) → withCard card f ≡ new
     → withCard card g ≡ new
 unfolding withCard unlessRefused
 carried-card card f g new h e = go (eqb (cardReport card .number) 0) e
@@ -116,7 +117,7 @@ unfolding withRecord stripsReport
 carried-record file f g new h =
     carried (not (markOk file)) _ _ _ new (carried (not (lengthOk (lengthIn file))) _ _ _ new
     (carried (not (entriesOk file)) _ _ _ new (carried (not (cardEntryOk file)) _ _ _ new
-    (carried-card (bodyIn file 0) (after-card file f) (after-card file g) new
+    (carried-card (editionOne (bodyIn file 0)) (after-card file f) (after-card file g) new
     (carried (not (eqb (entryCountIn file) (entryCount (disks (C file))))) _ _ _ new
     (carried (not (stripEntriesOk (disks (C file)) (start (C file)) (lengthIn file) (lostIn (disks (C file)) file) file)) _ _ _ new
     (carried (not (eqb (length file) (recordLength (C file) (lengthIn file) (lostIn (disks (C file)) file)))) _ _ _ new h)))))))
@@ -140,10 +141,10 @@ pub record Received (file : List ℕ) (k m L S : ℕ) : Type 0 where
   pub card-disk : getD (entryIn file 0) 1 0 ≡ 0
   pub card-at : offsetIn file 0 ≡ bodiesAt (entryCount (k + m))
   pub card-length : bodyLengthIn file 0 ≡ cardLength m
-  pub card-ok : cardReport (bodyIn file 0) ≡ accepted (k ∷ m ∷ [])
+  pub card-ok : cardReport (editionOne (bodyIn file 0)) ≡ accepted (k ∷ m ∷ [])
   pub card-size : length (bodyIn file 0) ≡ cardLength m
-  pub is-k : codeOf (bodyIn file 0) .k ≡ k
-  pub is-m : codeOf (bodyIn file 0) .m ≡ m
+  pub is-k : codeOf (editionOne (bodyIn file 0)) .k ≡ k
+  pub is-m : codeOf (editionOne (bodyIn file 0)) .m ≡ m
   pub k-in : (1 ≤ k) × (k ≤ 16)
   pub m-in : (1 ≤ m) × (m ≤ 16)
   -- the lost set, the strips' entries and the whole
@@ -161,7 +162,7 @@ pub received : (file : List ℕ) (k m L S : ℕ) → recordReport file ≡ accep
 unfolding recordReport readReport recordLength bodyIn disks
 received file k m L S e =
     let card = bodyIn file 0 in
-    let D = codeOf card in
+    let D = codeOf (editionOne card) in
     let both = passed-all file (k ∷ m ∷ L ∷ S ∷ []) (readReport file) e in
     let p = both .0 in
     let ek : D .k ≡ k = ap (λ (r : Report). getD (r .values) 0 0) (both .1) in
@@ -174,8 +175,8 @@ received file k m L S e =
     let marked = mark-out file (p .mark-ok) in
     let named = card-entry-out file (p .card-entry-ok) in
     let many : entryCountIn file ≡ entryCount (k + m) = eqb-true (entryCountIn file) _ (p .count-ok) ∙ ap entryCount n in
-    let ok : cardReport card ≡ accepted (k ∷ m ∷ []) = card-accepted card (p .card-ok) ∙ ap₂ (λ (x y : ℕ). accepted (x ∷ y ∷ [])) ek em in
-    let a = accepted-card card k m ok in
+    let ok : cardReport (editionOne card) ≡ accepted (k ∷ m ∷ []) = card-accepted (editionOne card) (p .card-ok) ∙ ap₂ (λ (x y : ℕ). accepted (x ∷ y ∷ [])) ek em in
+    let a = accepted-card (editionOne card) k m ok in
     let fits : bodyLengthIn file 0 ≤ length (drop (offsetIn file 0) file) = omega (arith, length-drop (offsetIn file 0) file, named .3) in
     record {
       long = marked .0;
@@ -186,9 +187,9 @@ received file k m L S e =
       card-kind = named .0;
       card-disk = named .1;
       card-at = named .2 ∙ ap bodiesAt many;
-      card-length = sym (length-take-le (bodyLengthIn file 0) (drop (offsetIn file 0) file) fits) ∙ a .size;
+      card-length = sym (length-take-le (bodyLengthIn file 0) (drop (offsetIn file 0) file) fits) ∙ one-size card k m a;
       card-ok = ok;
-      card-size = a .size;
+      card-size = one-size card k m a;
       is-k = ek;
       is-m = em;
       k-in = count-in k (a .sound .k-ok);

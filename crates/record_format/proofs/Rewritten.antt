@@ -14,13 +14,13 @@ use Rattle.gf2.specs.If.{if_then_else_}
 use Rattle.gf2.specs.Sets.{has}
 use Rattle.gf2.proofs.Tests.{dec, if-true, if-false}
 use Rattle.flat.specs.Lists.{Bytes, range, each, bytes}
-use Rattle.flat.specs.Cards.{Code, disks, setOk, cardLength, codeOf}
+use Rattle.flat.specs.Cards.{Code, disks, setOk, cardLength, codeOf, editionOne}
 use Rattle.flat.specs.Faults.{accepted}
+use Rattle.flat.proofs.Lists.{bytes-part}
 use Rattle.flat.proofs.Reports.{unless-accepted}
 use Rattle.record_format.specs.Records.{entryCount, bodiesAt, stripsAt, bodyAt, recordLength, entry, stripEntry, stripBody, recordBytes, lengthIn, entryCountIn, entryIn, offsetIn, bodyLengthIn, bodyIn}
 use Rattle.record_format.specs.Faults.{recordWriteReport, recordWriteOutput, recordReport, bodyPart}
 use Rattle.record_format.specs.Theorems.{stripeIn}
-use Rattle.record_format.proofs.Numbers.{bytes-part}
 use Rattle.record_format.proofs.Standing.{Stands, stands-self, take-stands, stands-take, length-each, each-out}
 use Rattle.record_format.proofs.Entries.{length-entry, length-strip-entry, stands-field, entry-back}
 use Rattle.record_format.proofs.Parts.{Laid, laid-is}
@@ -33,7 +33,7 @@ module _ (file : List ℕ) (k m L S : ℕ) (b : Bytes file) (e : recordReport fi
   r = received file k m L S e
 
   abbrev C : Code
-  C = codeOf (bodyIn file 0)
+  C = codeOf (editionOne (bodyIn file 0))
 
   abbrev n : ℕ
   n = k + m

@@ -10,7 +10,7 @@ use lib.Dec.{eqb, eqb·suc-zero}
 use lib.ListN.{length, take, drop}
 use lib.Seq.{take-at}
 use Rattle.gf2.specs.If.{if_then_else_}
-use Rattle.flat.specs.Cards.{disks, codeOf}
+use Rattle.flat.specs.Cards.{disks, codeOf, editionOne}
 use Rattle.record_format.specs.Records.{recordLength, recordBytes, bodyIn}
 use Rattle.flat.specs.Faults.{Report, refused, unlessRefused}
 use Rattle.record_format.specs.Faults.{recordWriteOutput, readReport, recordReport, bodyReport, bodyPart}
@@ -24,7 +24,7 @@ use Rattle.record_format.proofs.Bodies.{body-refused, body-filled}
 pub records-read-back : RecordReadsBack
 unfolding recordWriteOutput
 records-read-back card stripe output L S len e =
-    let C = codeOf card in
+    let C = codeOf (editionOne card) in
     let file = recordBytes card (disks C) L S stripe in
     let w = recordable card L S (length stripe) (length output) len e in
     let long : length file ≡ len = record-length card stripe L S _ _ (w .0) (w .1) refl ∙ w .2 in

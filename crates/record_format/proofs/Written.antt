@@ -12,12 +12,12 @@ use lib.ListN.{length, getD, take, drop}
 use Rattle.gf2.specs.Sets.{has}
 use Rattle.gf2.proofs.Tests.{if-false}
 use Rattle.flat.specs.Lists.{padded}
-use Rattle.flat.specs.Cards.{Code, disks, setOk, codeOf, cardLength}
+use Rattle.flat.specs.Cards.{Code, disks, setOk, codeOf, cardLength, editionOne}
 use Rattle.flat.specs.Strips.{lengthOk}
 use Rattle.flat.specs.Faults.{Report, accepted, refused, cardReport, cardColumns}
 use Rattle.flat.proofs.Tested.{Passed, tests-past, tests-passed as passes}
 use Rattle.flat.proofs.Reports.{passed-number, unless-accepted, with-accepted, with-out}
-use Rattle.flat.proofs.Cards.{accepted-card, card-accepted}
+use Rattle.flat.proofs.Editions.{accepted-card, card-accepted, one-size}
 use Rattle.record_format.specs.Records.{stripsAt, bodyAt, recordLength, stripBody, recordBytes, bodyIn}
 use Rattle.record_format.specs.Faults.{recordWriteTests, recordWriteReport, recordReport, recordColumns, bodyReport, bodyPart}
 use Rattle.record_format.proofs.Standing.{Stands, stands-take}
@@ -40,34 +40,34 @@ record-passed C L S n p e =
     let d = passed-number (ltb p (recordLength C L S)) 15 [] (accepted (recordLength C L S ∷ [])) (sym (ap (λ (r : Report). r .number) past) ∙ e) in
     record { passed = t; room = ltb-false p (recordLength C L S) (d .0); answer = past ∙ d .2 }
 
-pub record-accepted : (card : List ℕ) (L S n p : ℕ) → cardReport card ≡ accepted (codeOf card .k ∷ codeOf card .m ∷ []) → lengthOk L ≡ true
-    → setOk (codeOf card) S ≡ true → n ≡ disks (codeOf card) * L → recordLength (codeOf card) L S ≤ p
-    → recordWriteReport card L S n p ≡ accepted (recordLength (codeOf card) L S ∷ [])
+pub record-accepted : (card : List ℕ) (L S n p : ℕ) → cardReport (editionOne card) ≡ accepted (codeOf (editionOne card) .k ∷ codeOf (editionOne card) .m ∷ []) → lengthOk L ≡ true
+    → setOk (codeOf (editionOne card)) S ≡ true → n ≡ disks (codeOf (editionOne card)) * L → recordLength (codeOf (editionOne card)) L S ≤ p
+    → recordWriteReport card L S n p ≡ accepted (recordLength (codeOf (editionOne card)) L S ∷ [])
 unfolding recordWriteReport recordWriteTests
 record-accepted card L S n p c l s e h =
-    with-accepted card (codeOf card .k ∷ codeOf card .m ∷ []) (λ C. recordWriteTests C L S n p) c
-    ∙ tests-past (codeOf card) L S n _ (record { length-ok = l; set-ok = s; size = e }) ∙ simp (le-ltb p (recordLength (codeOf card) L S) h)
+    with-accepted (editionOne card) (codeOf (editionOne card) .k ∷ codeOf (editionOne card) .m ∷ []) (λ C. recordWriteTests C L S n p) c
+    ∙ tests-past (codeOf (editionOne card)) L S n _ (record { length-ok = l; set-ok = s; size = e }) ∙ simp (le-ltb p (recordLength (codeOf (editionOne card)) L S) h)
 
 pub recordable : (card : List ℕ) (L S n p len : ℕ) → recordWriteReport card L S n p ≡ accepted (len ∷ [])
-    → (cardReport card ≡ accepted (codeOf card .k ∷ codeOf card .m ∷ [])) × Recordable (codeOf card) L S n p × (recordLength (codeOf card) L S ≡ len)
+    → (cardReport (editionOne card) ≡ accepted (codeOf (editionOne card) .k ∷ codeOf (editionOne card) .m ∷ [])) × Recordable (codeOf (editionOne card)) L S n p × (recordLength (codeOf (editionOne card)) L S ≡ len)
 unfolding recordWriteReport
 recordable card L S n p len e =
-    let w = with-out card (len ∷ []) (λ C. recordWriteTests C L S n p) e in
-    let t = record-passed (codeOf card) L S n p (ap (λ (r : Report). r .number) (w .1)) in
-    (card-accepted card (w .0), t, ap (λ (r : Report). getD (r .values) 0 0) (sym (t .answer) ∙ w .1))
+    let w = with-out (editionOne card) (len ∷ []) (λ C. recordWriteTests C L S n p) e in
+    let t = record-passed (codeOf (editionOne card)) L S n p (ap (λ (r : Report). r .number) (w .1)) in
+    (card-accepted (editionOne card) (w .0), t, ap (λ (r : Report). getD (r .values) 0 0) (sym (t .answer) ∙ w .1))
 
 -- what is read from the record of a stripe
 abbrev pub Read : (card stripe : List ℕ) (L S : ℕ) → List ℕ → Type 0
 Read card stripe L S file =
-    (recordReport file ≡ accepted (codeOf card .k ∷ codeOf card .m ∷ L ∷ S ∷ []))
-    × (recordColumns file ≡ cardColumns card)
-    × ((d : ℕ) → d < disks (codeOf card) → (T (has S d) → ⊥) → (bodyReport file d ≡ accepted []) × (bodyPart file d ≡ take L (drop (d * L) stripe)))
-    × ((d : ℕ) → d < disks (codeOf card) → T (has S d) → bodyReport file d ≡ refused 16 [])
+    (recordReport file ≡ accepted (codeOf (editionOne card) .k ∷ codeOf (editionOne card) .m ∷ L ∷ S ∷ []))
+    × (recordColumns file ≡ cardColumns (editionOne card))
+    × ((d : ℕ) → d < disks (codeOf (editionOne card)) → (T (has S d) → ⊥) → (bodyReport file d ≡ accepted []) × (bodyPart file d ≡ take L (drop (d * L) stripe)))
+    × ((d : ℕ) → d < disks (codeOf (editionOne card)) → T (has S d) → bodyReport file d ≡ refused 16 [])
 
-module _ (card stripe : List ℕ) (L S n p : ℕ) (ok : cardReport card ≡ accepted (codeOf card .k ∷ codeOf card .m ∷ []))
-    (w : Recordable (codeOf card) L S n p) (sized : length stripe ≡ n) where
+module _ (card stripe : List ℕ) (L S n p : ℕ) (ok : cardReport (editionOne card) ≡ accepted (codeOf (editionOne card) .k ∷ codeOf (editionOne card) .m ∷ []))
+    (w : Recordable (codeOf (editionOne card)) L S n p) (sized : length stripe ≡ n) where
   abbrev C : Code
-  C = codeOf card
+  C = codeOf (editionOne card)
 
   abbrev file : List ℕ
   file = recordBytes card (disks C) L S stripe
@@ -77,9 +77,9 @@ module _ (card stripe : List ℕ) (L S n p : ℕ) (ok : cardReport card ≡ acce
 
   -- where the first strip's body goes
   at-start : stripsAt (disks C) (length card) ≡ stripsAt (disks C) (cardLength (C .m))
-  at-start = ap (stripsAt (disks C)) (accepted-card card (C .k) (C .m) ok .size)
+  at-start = ap (stripsAt (disks C)) (one-size card (C .k) (C .m) (accepted-card (editionOne card) (C .k) (C .m) ok))
 
-  pub record-length : length (recordBytes card (disks (codeOf card)) L S stripe) ≡ recordLength (codeOf card) L S
+  pub record-length : length (recordBytes card (disks (codeOf (editionOne card))) L S stripe) ≡ recordLength (codeOf (editionOne card)) L S
   unfolding recordLength
   record-length = length-record card (disks C) L S stripe all ∙ ap (λ (at : ℕ). bodyAt at L S (disks C)) at-start
 
@@ -92,12 +92,12 @@ module _ (card stripe : List ℕ) (L S n p : ℕ) (ok : cardReport card ≡ acce
   card-there : bodyIn file 0 ≡ card
   card-there = card-is card L S stripe file ok (w .passed .length-ok) (w .passed .set-ok) record-length laid
 
-  columns : recordColumns file ≡ cardColumns card
+  columns : recordColumns file ≡ cardColumns (editionOne card)
   unfolding recordColumns cardColumns
   columns =
       ap (padded 16)
-      (unless-accepted (recordReport file) _ (codeOf (bodyIn file 0) .columns) [] read ∙ ap (λ (c : List ℕ). codeOf c .columns) card-there
-      ∙ sym (unless-accepted (cardReport card) _ (C .columns) [] ok))
+      (unless-accepted (recordReport file) _ (codeOf (editionOne (bodyIn file 0)) .columns) [] read ∙ ap (λ (c : List ℕ). codeOf (editionOne c) .columns) card-there
+      ∙ sym (unless-accepted (cardReport (editionOne card)) _ (C .columns) [] ok))
 
   body : (d : ℕ) → d < disks C → (T (has S d) → ⊥) → bodyPart file d ≡ take L (drop (d * L) stripe)
   unfolding disks stripBody
@@ -108,7 +108,7 @@ module _ (card stripe : List ℕ) (L S n p : ℕ) (ok : cardReport card ≡ acce
       ∙ stands-take file (bodyAt (stripsAt (disks C) (length card)) L S d) L strip (length-strip d L stripe (strip-room d (disks C) L (length stripe) l all))
       (subst (Stands file (bodyAt (stripsAt (disks C) (length card)) L S d)) is (laid .bodies-at d l))
 
-  pub record-read : Read card stripe L S (recordBytes card (disks (codeOf card)) L S stripe)
+  pub record-read : Read card stripe L S (recordBytes card (disks (codeOf (editionOne card))) L S stripe)
   unfolding disks
   record-read = (
     read,

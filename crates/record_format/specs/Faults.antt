@@ -9,7 +9,7 @@ use lib.ListN.{length, drop}
 use Rattle.gf2.specs.If.{if_then_else_}
 use Rattle.gf2.specs.Sets.{has}
 use Rattle.flat.specs.Lists.{padded}
-use Rattle.flat.specs.Cards.{Code, disks, cardLength, codeOf}
+use Rattle.flat.specs.Cards.{Code, disks, cardLength, codeOf, editionOne}
 use Rattle.flat.specs.Strips.{lengthOk}
 use Rattle.flat.specs.Faults.{Report, accepted, refused, unlessRefused, withCard, stripeTests}
 use Rattle.record_format.specs.Records.{entryCount, stripsAt, recordLength, recordBytes, lengthIn, entryCountIn, bodyIn, markOk, entriesOk, cardEntryOk, lostIn, stripEntriesOk}
@@ -25,13 +25,13 @@ recordWriteTests C L S n p =
 
 unfoldable pub recordWriteReport : List ℕ → ℕ → ℕ → ℕ → ℕ → Report
 unfolding withCard recordWriteTests
-recordWriteReport card L S n p = withCard card (λ C. recordWriteTests C L S n p)
+recordWriteReport card L S n p = withCard (editionOne card) (λ C. recordWriteTests C L S n p)
 
 unfoldable pub recordWriteOutput : List ℕ → ℕ → ℕ → List ℕ → List ℕ → List ℕ
 unfolding unlessRefused recordWriteReport recordBytes recordLength disks codeOf
 recordWriteOutput card L S stripe output =
     unlessRefused (recordWriteReport card L S (length stripe) (length output))
-    (recordBytes card (disks (codeOf card)) L S stripe ++ drop (recordLength (codeOf card) L S) output) output
+    (recordBytes card (disks (codeOf (editionOne card))) L S stripe ++ drop (recordLength (codeOf (editionOne card)) L S) output) output
 
 -- ---- the calls that take a record
 
@@ -51,7 +51,7 @@ withRecord file answer =
     if not (lengthOk (lengthIn file)) then refused 6 [] else
     if not (entriesOk file) then refused 14 [] else
     if not (cardEntryOk file) then refused 14 [] else
-    withCard (bodyIn file 0) (λ C.
+    withCard (editionOne (bodyIn file 0)) (λ C.
     if not (eqb (entryCountIn file) (entryCount (disks C))) then refused 14 [] else
     stripsReport C file (answer C))
 
@@ -66,7 +66,7 @@ recordReport file = withRecord file (readReport file)
 
 unfoldable pub recordColumns : List ℕ → List ℕ
 unfolding padded unlessRefused recordReport codeOf bodyIn
-recordColumns file = padded 16 (unlessRefused (recordReport file) (codeOf (bodyIn file 0) .columns) [])
+recordColumns file = padded 16 (unlessRefused (recordReport file) (codeOf (editionOne (bodyIn file 0)) .columns) [])
 
 -- the call beside the body call, whose tests are on the disks' number and the lost set
 unfoldable pub bodyTests : ℕ → ℕ → ℕ → Report

@@ -9,7 +9,7 @@ use lib.ListN.{length, take, drop, replicate}
 use Rattle.gf2.specs.If.{if_then_else_}
 use Rattle.gf2.specs.Sets.{has}
 use Rattle.flat.specs.Lists.{Bytes, range, each}
-use Rattle.flat.specs.Cards.{codeOf, disks}
+use Rattle.flat.specs.Cards.{codeOf, disks, editionOne}
 use Rattle.record_format.specs.Records.{recordBytes, bodyIn}
 use Rattle.flat.specs.Faults.{accepted, refused, cardColumns}
 use Rattle.record_format.specs.Faults.{recordWriteReport, recordWriteOutput, recordReport, recordColumns, bodyReport, bodyPart}
@@ -19,10 +19,10 @@ use Rattle.record_format.specs.Faults.{recordWriteReport, recordWriteOut
 abbrev pub RecordReadsBack : Type 0
 RecordReadsBack =
     (card stripe output : List ℕ) (L S len : ℕ) → recordWriteReport card L S (length stripe) (length output) ≡ accepted (len ∷ [])
-    → let C = codeOf card in
+    → let C = codeOf (editionOne card) in
     let file = take len (recordWriteOutput card L S stripe output) in
     (recordReport file ≡ accepted (C .k ∷ C .m ∷ L ∷ S ∷ []))
-    × (recordColumns file ≡ cardColumns card)
+    × (recordColumns file ≡ cardColumns (editionOne card))
     × ((d : ℕ) → d < disks C → (T (has S d) → ⊥) → (bodyReport file d ≡ accepted []) × (bodyPart file d ≡ take L (drop (d * L) stripe)))
     × ((d : ℕ) → d < disks C → T (has S d) → bodyReport file d ≡ refused 16 [])
 
@@ -38,7 +38,7 @@ RecordWritesBack =
     (file output : List ℕ) (k m L S : ℕ) → Bytes file → recordReport file ≡ accepted (k ∷ m ∷ L ∷ S ∷ [])
     → length output ≡ length file
     → let card = bodyIn file 0 in
-    let stripe = stripeIn (disks (codeOf card)) L S file in
+    let stripe = stripeIn (disks (codeOf (editionOne card))) L S file in
     (recordWriteReport card L S (length stripe) (length output) ≡ accepted (length file ∷ []))
     × (recordWriteOutput card L S stripe output ≡ file)
 

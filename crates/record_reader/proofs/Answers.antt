@@ -7,7 +7,7 @@ use Prim.Native.Nat.{ℕ, _+_}
 use borrow.Author.Tests.{eq-eqb, ne-eqb}
 use lib.Dec.{eqb}
 use Rattle.gf2.specs.If.{if_then_else_}
-use Rattle.flat.specs.Cards.{Code, code, disks}
+use Rattle.flat.specs.Cards.{Code, code, disks, editionOne}
 use Rattle.flat.specs.Strips.{lengthOk}
 use Rattle.flat.specs.Faults.{Report, refused, cardReport, withCard}
 use Rattle.record_format.specs.Records.{entryCount, recordLength, lengthIn, entryCountIn, bodyIn, markOk, entriesOk, cardEntryOk}
@@ -53,20 +53,20 @@ pub record Listed (file : List ℕ) : Type 0 where
   pub named : cardEntryOk file ≡ true
 
 module _ (file : List ℕ) (p : Listed file) where
-  carded : recordReport file ≡ withCard (bodyIn file 0) (answer file)
+  carded : recordReport file ≡ withCard (editionOne (bodyIn file 0)) (answer file)
   unfolding recordReport withRecord
   carded = simp (p .marked, p .sized, p .listed, p .named)
 
-  pub bad-body : (f : CardFault) → checkReport (card.Bad f) ≡ cardReport (bodyIn file 0) → faultReport f ≡ recordReport file
-  bad-body f e = sym (carded ∙ bad-card (bodyIn file 0) f (answer file) e)
+  pub bad-body : (f : CardFault) → checkReport (card.Bad f) ≡ cardReport (editionOne (bodyIn file 0)) → faultReport f ≡ recordReport file
+  bad-body f e = sym (carded ∙ bad-card (editionOne (bodyIn file 0)) f (answer file) e)
 
-  module _ (k m : ℕ) (g : GoodCard (bodyIn file 0) k m) where
+  module _ (k m : ℕ) (g : GoodCard (editionOne (bodyIn file 0)) k m) where
     abbrev C : Code
     C = code k m []
 
     counted : recordReport file ≡ (if not (eqb (entryCountIn file) (k + m + 1)) then refused 14 [] else stripsReport C file (readReport file C))
     unfolding entryCount stripsReport readReport recordLength disks
-    counted = carded ∙ good-with (bodyIn file 0) k m (answer file) g
+    counted = carded ∙ good-with (editionOne (bodyIn file 0)) k m (answer file) g
 
     pub bad-count : (entryCountIn file ≡ k + m + 1 → ⊥) → refused 14 [] ≡ recordReport file
     bad-count f = sym (counted ∙ simp (ne-eqb _ _ f))

@@ -9,7 +9,7 @@ use native.Mathlib.Omega.{arith}
 use lib.Dec.{eqb}
 use lib.ListN.{length, take, drop, replicate}
 use Rattle.flat.specs.Lists.{padded}
-use Rattle.flat.specs.Cards.{Code, codeOf, cardLength}
+use Rattle.flat.specs.Cards.{Code, codeOf, cardLength, editionOne}
 use Rattle.record_format.specs.Records.{entryCount, bodiesAt, stripsAt, bodyAt, offsetIn, bodyLengthIn, bodyIn}
 use Rattle.flat.specs.Faults.{Report, accepted, unlessRefused, cardReport, cardColumns}
 use Rattle.record_format.specs.Faults.{withRecord, recordReport, recordColumns}
@@ -44,7 +44,7 @@ bad-record file f answer e =
 -- it has no columns
 pub columns-none : (file : List ℕ) (f : RecordFault) → recordFaultReport f ≡ recordReport file → replicate 16 0 ≡ recordColumns file
 unfolding recordColumns padded
-columns-none file f e = sym (ap (padded 16) (unless-bad f (recordReport file) (codeOf (bodyIn file 0) .columns) [] e))
+columns-none file f e = sym (ap (padded 16) (unless-bad f (recordReport file) (codeOf (editionOne (bodyIn file 0)) .columns) [] e))
 
 -- ---- a good record
 
@@ -75,9 +75,9 @@ module _ (file : List ℕ) (k m L S : ℕ) (g : GoodRecord file k m L S) where
       let len : start - (20 + 10 * (k + m)) ≡ bodyLengthIn file 0 = omega (arith, r .card-length, e) in
       ap₂ (λ (x y : ℕ). take x (drop y file)) len at
 
-  pub columns-good : (card columns : List ℕ) → card ≡ bodyIn file 0 → columns ≡ cardColumns card → columns ≡ recordColumns file
+  pub columns-good : (card columns : List ℕ) → card ≡ bodyIn file 0 → columns ≡ cardColumns (editionOne card) → columns ≡ recordColumns file
   unfolding cardColumns recordColumns
   columns-good card columns is e =
-      let new = codeOf (bodyIn file 0) .columns in
-      e ∙ ap cardColumns is
-      ∙ ap (padded 16) (unless-accepted (cardReport (bodyIn file 0)) _ new [] (g .known .card-ok) ∙ sym (unless-accepted (recordReport file) _ new [] (g .found)))
+      let new = codeOf (editionOne (bodyIn file 0)) .columns in
+      e ∙ ap (λ (bs : List ℕ). cardColumns (editionOne bs)) is
+      ∙ ap (padded 16) (unless-accepted (cardReport (editionOne (bodyIn file 0))) _ new [] (g .known .card-ok) ∙ sym (unless-accepted (recordReport file) _ new [] (g .found)))

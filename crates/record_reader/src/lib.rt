@@ -7,6 +7,7 @@ ghost use Rattle.record_format.specs.Faults.{recordReport, recordColumns};
 ghost use Rattle.record_reader.specs.Reports.{report};
 use card::CardCheck;
 use card::CardFault;
+use card::Edition;
 
 mod checks;
 
@@ -59,7 +60,7 @@ pub fn check(file: &[u8]) -> RecordCheck
     let e = record_contents::number_2(file, 8);
     let at = record_contents::number_4(file, 12);
     let end = at + record_contents::number_4(file, 16);
-    match card::check(&file[at..end]) {
+    match card::check(Edition::First, &file[at..end]) {
         CardCheck::Bad(fault) => RecordCheck::Bad(RecordFault::Card(fault)),
         CardCheck::Good { k, m } => {
             if e != k + m + 1 {
@@ -87,7 +88,10 @@ pub fn read(file: &[u8]) -> RecordRead
             lost: _,
         } => {
             let n = k + m;
-            let card = card::read(&file[20 + 10 * n..record_contents::strips_at(n, m)]);
+            let card = card::read(
+                Edition::First,
+                &file[20 + 10 * n..record_contents::strips_at(n, m)],
+            );
             let columns = card.columns;
             RecordRead { check, columns }
         }

@@ -11,7 +11,7 @@ use borrow.Author.Tests.{lt-ltb, le-ltb}
 use lib.Dec.{eqb, ltb}
 use lib.ListN.{length, drop}
 use Rattle.gf2.proofs.Tests.{true-T, eqb-out}
-use Rattle.flat.specs.Cards.{Code, code, codeOf, disks, setOk, cardLength}
+use Rattle.flat.specs.Cards.{Code, code, codeOf, disks, setOk, cardLength, editionOne}
 use Rattle.flat.specs.Strips.{lengthOk}
 use Rattle.flat.specs.Faults.{Report, accepted, refused, unlessRefused, cardReport, stripeTests}
 use Rattle.flat.proofs.Reports.{unless-other}
@@ -24,7 +24,7 @@ use Rattle.card.specs.declared.CardFault.{CardFault}
 use Rattle.card.specs.declared.CardCheck.the-variants.{Bad}
 use Rattle.card.specs.Reports.{faultReport, report as checkReport}
 use Rattle.card.proofs.Laws.{unless-fault}
-use Rattle.card.proofs.Callers.{GoodCard, good-with, bad-card}
+use Rattle.card.proofs.Callers.{GoodCard, good-with, bad-card, one-length}
 use Rattle.flat.specs.Lists.{put}
 
 -- ---- the tests at each way out
@@ -68,15 +68,15 @@ zero-passed C L S n p r e z =
 
 -- ---- a good card and a bad one
 
-pub good-report : (card : List ℕ) (k m L S n p : ℕ) → GoodCard card k m → recordWriteReport card L S n p ≡ recordWriteTests (code k m []) L S n p
+pub good-report : (card : List ℕ) (k m L S n p : ℕ) → GoodCard (editionOne card) k m → recordWriteReport card L S n p ≡ recordWriteTests (code k m []) L S n p
 unfolding recordWriteReport recordWriteTests stripeTests recordLength setOk disks
-good-report card k m L S n p g = good-with card k m (λ C. recordWriteTests C L S n p) g
+good-report card k m L S n p g = good-with (editionOne card) k m (λ C. recordWriteTests C L S n p) g
 
-pub bad-report : (card : List ℕ) (f : CardFault) (L S n p : ℕ) → checkReport (Bad f) ≡ cardReport card → faultReport f ≡ recordWriteReport card L S n p
+pub bad-report : (card : List ℕ) (f : CardFault) (L S n p : ℕ) → checkReport (Bad f) ≡ cardReport (editionOne card) → faultReport f ≡ recordWriteReport card L S n p
 unfolding recordWriteReport
-bad-report card f L S n p e = sym (bad-card card f (λ C. recordWriteTests C L S n p) e)
+bad-report card f L S n p e = sym (bad-card (editionOne card) f (λ C. recordWriteTests C L S n p) e)
 
-pub bad-output : (card : List ℕ) (f : CardFault) (L S : ℕ) (stripe out : List ℕ) → checkReport (Bad f) ≡ cardReport card
+pub bad-output : (card : List ℕ) (f : CardFault) (L S : ℕ) (stripe out : List ℕ) → checkReport (Bad f) ≡ cardReport (editionOne card)
     → out ≡ recordWriteOutput card L S stripe out
 unfolding recordWriteOutput
 bad-output card f L S stripe out e =
@@ -88,34 +88,34 @@ pub room-asked : (card : List ℕ) (k m L S : ℕ) → length card ≡ 2 + 2 * m
 unfolding recordLength disks cardLength
 room-asked card k m L S e = ap (λ (len : ℕ). bodyAt (stripsAt (k + m) len) L S (k + m)) e
 
-module _ (card : List ℕ) (k m L S : ℕ) (stripe out : List ℕ) (g : GoodCard card k m) where
+module _ (card : List ℕ) (k m L S : ℕ) (stripe out : List ℕ) (g : GoodCard (editionOne card) k m) where
   -- the record at the output's front
   front : Recordable (code k m []) L S (length stripe) (length out)
-      → put out 0 (recordBytes card (k + m) L S stripe) ≡ recordBytes card (disks (codeOf card)) L S stripe ++ drop (recordLength (codeOf card) L S) out
+      → put out 0 (recordBytes card (k + m) L S stripe) ≡ recordBytes card (disks (codeOf (editionOne card))) L S stripe ++ drop (recordLength (codeOf (editionOne card)) L S) out
   unfolding put recordLength disks
   front p =
-      let n : codeOf card .k + codeOf card .m ≡ k + m = ap (λ (C : Code). C .k + C .m) (g .is) in
-      let long : 0 + length (recordBytes card (k + m) L S stripe) ≡ recordLength (codeOf card) L S =
+      let n : codeOf (editionOne card) .k + codeOf (editionOne card) .m ≡ k + m = ap (λ (C : Code). C .k + C .m) (g .is) in
+      let long : 0 + length (recordBytes card (k + m) L S stripe) ≡ recordLength (codeOf (editionOne card)) L S =
       omega (
         arith,
         length-record card (k + m) L S stripe (omega (arith, p .passed .size)),
-        room-asked card k m L S (g .size),
+        room-asked card k m L S (one-length card k m g),
         ap (λ (C : Code). recordLength C L S) (g .is),
       ) in
       ap₂ (λ (x y : ℕ). recordBytes card x L S stripe ++ drop y out) (sym n) long
 
   module _ (r : Report) (e : r ≡ recordWriteReport card L S (length stripe) (length out)) where
-    asked : unlessRefused r (recordBytes card (disks (codeOf card)) L S stripe ++ drop (recordLength (codeOf card) L S) out) out
+    asked : unlessRefused r (recordBytes card (disks (codeOf (editionOne card))) L S stripe ++ drop (recordLength (codeOf (editionOne card)) L S) out) out
         ≡ recordWriteOutput card L S stripe out
     unfolding recordWriteOutput
-    asked = ap (λ (x : Report). unlessRefused x (recordBytes card (disks (codeOf card)) L S stripe ++ drop (recordLength (codeOf card) L S) out) out) e
+    asked = ap (λ (x : Report). unlessRefused x (recordBytes card (disks (codeOf (editionOne card))) L S stripe ++ drop (recordLength (codeOf (editionOne card)) L S) out) out) e
 
     pub good-output : unlessRefused r (put out 0 (recordBytes card (k + m) L S stripe)) out ≡ recordWriteOutput card L S stripe out
     good-output = go (eqb (r .number) 0) refl ∙ asked
       where
         go : (t : Bool) → eqb (r .number) 0 ≡ t
             → unlessRefused r (put out 0 (recordBytes card (k + m) L S stripe)) out
-            ≡ unlessRefused r (recordBytes card (disks (codeOf card)) L S stripe ++ drop (recordLength (codeOf card) L S) out) out
+            ≡ unlessRefused r (recordBytes card (disks (codeOf (editionOne card))) L S stripe ++ drop (recordLength (codeOf (editionOne card)) L S) out) out
         go true z =
             let p = zero-passed (code k m []) L S (length stripe) (length out) r (e ∙ good-report card k m L S (length stripe) (length out) g) z in
             ap (λ (new : List ℕ). unlessRefused r new out) (front p)

@@ -16,6 +16,7 @@ ghost use Rattle.flat.specs.Lists.{put};
 ghost use Rattle.record_writer.specs.Reports.{report};
 use card::CardCheck;
 use card::CardFault;
+use card::Edition;
 
 mod parts;
 
@@ -92,7 +93,7 @@ pub fn write(card: &[u8], l: usize, lost: u32, stripe: &[u8], out: &mut [u8]) ->
     ensures { λ r. ⌜ report r ≡ recordWriteReport (now (card .entry)) l lost (length (now (stripe .entry))) (length (now (out .entry))) ⌝ }
     ensures { λ _. ⌜ now (out .exit) ≡ recordWriteOutput (now (card .entry)) l lost (now (stripe .entry)) (now (out .entry)) ⌝ }
 {
-    match card::check(card) {
+    match card::check(Edition::First, card) {
         CardCheck::Bad(fault) => RecordWritten::Card(fault),
         CardCheck::Good { k, m } => write_good(card, k, m, l, lost, stripe, out),
     }

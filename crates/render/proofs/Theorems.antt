@@ -15,12 +15,13 @@ use lib.Seq.{take-at}
 use Rattle.gf2.specs.If.{if_then_else_}
 use Rattle.gf2.specs.Sets.{size}
 use Rattle.flat.specs.Lists.{range, filter}
-use Rattle.flat.specs.Cards.{Code, codeOf, disks}
+use Rattle.flat.specs.Cards.{Code, codeOf, disks, editionOne}
 use Rattle.flat.specs.Erasures.{erasures, places, vector}
 use Rattle.flat.specs.Faults.{Report, accepted, unlessRefused, cardReport, listReport, erasuresReport}
 use Rattle.flat.proofs.Members.{In, in-cons, in-nil, map-out}
 use Rattle.flat.proofs.Reports.{passed-number, with-out, with-number}
-use Rattle.flat.proofs.Cards.{accepted-card, card-accepted, count-in}
+use Rattle.flat.proofs.Cards.{count-in}
+use Rattle.flat.proofs.Editions.{accepted-card, card-accepted}
 use Rattle.flat.proofs.ErasuresListed.{erasures-out}
 use Rattle.flat.proofs.Vector.{vector-length}
 use Rattle.flat.proofs.Filters.{filter-length}
@@ -68,37 +69,38 @@ module _ (C : Code) (hk : C .k ≤ 16) (hm : C .m ≤ 16) where
       )
 
 -- the list is written only where it fits, for a card that is accepted
-module _ (card : List ℕ) (n : ℕ) (h : erasuresReport card n .number ≡ 0) where
+module _ (card : List ℕ) (n : ℕ) (h : erasuresReport (editionOne card) n .number ≡ 0) where
   abbrev C : Code
-  C = codeOf card
+  C = codeOf (editionOne card)
 
-  listed : (length (erasures C) ≤ n) × (cardReport card .number ≡ 0)
+  listed : (length (erasures C) ≤ n) × (cardReport (editionOne card) .number ≡ 0)
   unfolding erasuresReport listReport
   listed =
-      let w = with-number card (λ D. listReport (erasures D) n) h in
+      let w = with-number (editionOne card) (λ D. listReport (erasures D) n) h in
       let p = passed-number (ltb n (length (erasures C))) 9 (length (erasures C) ∷ []) (accepted (length (erasures C) ∷ [])) (ap (λ (r : Report). r .number) (sym w) ∙ h) in
-      (ltb-false n (length (erasures C)) (p .0), with-out card (length (erasures C) ∷ []) (λ D. listReport (erasures D) n) (w ∙ p .2) .0)
+      (ltb-false n (length (erasures C)) (p .0), with-out (editionOne card) (length (erasures C) ∷ []) (λ D. listReport (erasures D) n) (w ∙ p .2) .0)
 
   listing-short : length (listingText (C .k) (C .m) (erasures C) (vector C)) ≤ longest n
   listing-short =
-      let s = accepted-card card (C .k) (C .m) (card-accepted card (listed .1)) .sound in
+      let s = accepted-card (editionOne card) (C .k) (C .m) (card-accepted (editionOne card) (listed .1)) .sound in
       omega (arith, listing-most C (count-in (C .k) (s .k-ok) .1) (count-in (C .m) (s .m-ok) .1), mul-le-mul-left 14 (listed .0))
 
-refusal-short : (card : List ℕ) (n : ℕ) → length (refusedText (erasuresReport card n .number)) ≤ longest n
+refusal-short : (card : List ℕ) (n : ℕ) → length (refusedText (erasuresReport (editionOne card) n .number)) ≤ longest n
 unfolding refusedText
 refusal-short card n =
-    let number = erasuresReport card n .number in
+    let number = erasuresReport (editionOne card) n .number in
     let few : (v : ℕ) → In v (number ∷ []) → length (decimal v) ≤ 3 =
-    λ v t. length-most 2 v (⊎-elim (λ e. omega (arith, erasures-fits card n .number-fits)) (λ u. absurd (in-nil v u)) (in-cons v number [] t)) in
+    λ v t. length-most 2 v (⊎-elim (λ e. omega (arith, erasures-fits (editionOne card) n .number-fits)) (λ u. absurd (in-nil v u)) (in-cons v number [] t)) in
     omega (arith, line-most 3 refusedWord (number ∷ []) few)
 
 printed-most : (card : List ℕ) (n : ℕ) → length (printed card n) ≤ longest n
 unfolding printed unlessRefused
-printed-most card n = go (eqb (erasuresReport card n .number) 0) refl
+printed-most card n = go (eqb (erasuresReport (editionOne card) n .number) 0) refl
   where
-    go : (t : Bool) → eqb (erasuresReport card n .number) 0 ≡ t
-        → length (if t then listingText (codeOf card .k) (codeOf card .m) (erasures (codeOf card)) (vector (codeOf card)) else refusedText (erasuresReport card n .number)) ≤ longest n
-    go true e = listing-short card n (eqb-true (erasuresReport card n .number) 0 e)
+    go : (t : Bool) → eqb (erasuresReport (editionOne card) n .number) 0 ≡ t
+        → let C = codeOf (editionOne card) in
+        length (if t then listingText (C .k) (C .m) (erasures C) (vector C) else refusedText (erasuresReport (editionOne card) n .number)) ≤ longest n
+    go true e = listing-short card n (eqb-true (erasuresReport (editionOne card) n .number) 0 e)
     go false e = refusal-short card n
 
 pub printed-short : PrintedShort

@@ -5,7 +5,7 @@ use Prim.Native.Nat.{ℕ}
 use lib.Dec.{leb}
 use lib.ListN.{length, take}
 use Rattle.gf2.specs.If.{if_then_else_}
-use Rattle.flat.specs.Cards.{codeOf}
+use Rattle.flat.specs.Cards.{codeOf, editionOne}
 use Rattle.flat.specs.Erasures.{erasures, vector}
 use Rattle.flat.specs.Faults.{unlessRefused, erasuresReport}
 use Rattle.text.specs.Text.{listingText, refusedText}
@@ -16,9 +16,10 @@ use Rattle.text.specs.declared.Text.the-variants.{Written, Short}
 unfoldable pub printed : List ℕ → ℕ → List ℕ
 unfolding unlessRefused erasuresReport listingText refusedText erasures vector codeOf
 printed card n =
-    unlessRefused (erasuresReport card n)
-    (listingText (codeOf card .k) (codeOf card .m) (erasures (codeOf card)) (vector (codeOf card)))
-    (refusedText (erasuresReport card n .number))
+    let C = codeOf (editionOne card) in
+    unlessRefused (erasuresReport (editionOne card) n)
+    (listingText (C .k) (C .m) (erasures C) (vector C))
+    (refusedText (erasuresReport (editionOne card) n .number))
 
 -- the part of the buffer that holds a text; none where the buffer was too short
 unfoldable pub shownPart : Text → List ℕ → List ℕ

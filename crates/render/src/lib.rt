@@ -5,21 +5,23 @@
 ghost use mathlib.Core.Path.{_≡_};
 ghost use mathlib.Core.List.{[], _∷_};
 ghost use lib.ListN.{length};
+ghost use Rattle.flat.specs.Cards.{editionOne};
 ghost use Rattle.flat.specs.Faults.{accepted, cardReport, erasuresSlice};
 ghost use Rattle.text.specs.Answers.{textAnswer, textBuffer};
 ghost use Rattle.render.specs.Printed.{printed, shownPart};
 use card::CardCheck;
+use card::Edition;
 use erasures::Listed;
 use text::Text;
 
 // The text for a card that the check found good.
 fn listing(card: &[u8], k: usize, m: usize, entries: &mut [u32], out: &mut [u8]) -> Text
-    requires { ⌜ cardReport (now card) ≡ accepted (k ∷ m ∷ []) ⌝ }
+    requires { ⌜ cardReport (editionOne (now card)) ≡ accepted (k ∷ m ∷ []) ⌝ }
     ensures { λ r. ⌜ r ≡ textAnswer (printed (now (card .entry)) (length (now (entries .entry)))) (length (now (out .entry))) ⌝ }
     ensures { λ _. ⌜ now (out .exit) ≡ textBuffer (printed (now (card .entry)) (length (now (entries .entry)))) (now (out .entry)) ⌝ }
-    ensures { λ _. ⌜ now (entries .exit) ≡ erasuresSlice (now (card .entry)) (now (entries .entry)) ⌝ }
+    ensures { λ _. ⌜ now (entries .exit) ≡ erasuresSlice (editionOne (now (card .entry))) (now (entries .entry)) ⌝ }
 {
-    let listing = erasures::list(card, entries);
+    let listing = erasures::list(Edition::First, card, entries);
     let answer = listing.answer;
     let vector = listing.vector;
     match answer {
@@ -34,9 +36,9 @@ fn listing(card: &[u8], k: usize, m: usize, entries: &mut [u32], out: &mut [u8])
 pub fn render(card: &[u8], entries: &mut [u32], out: &mut [u8]) -> Text
     ensures { λ r. ⌜ r ≡ textAnswer (printed (now (card .entry)) (length (now (entries .entry)))) (length (now (out .entry))) ⌝ }
     ensures { λ _. ⌜ now (out .exit) ≡ textBuffer (printed (now (card .entry)) (length (now (entries .entry)))) (now (out .entry)) ⌝ }
-    ensures { λ _. ⌜ now (entries .exit) ≡ erasuresSlice (now (card .entry)) (now (entries .entry)) ⌝ }
+    ensures { λ _. ⌜ now (entries .exit) ≡ erasuresSlice (editionOne (now (card .entry))) (now (entries .entry)) ⌝ }
 {
-    match card::check(card) {
+    match card::check(Edition::First, card) {
         CardCheck::Bad(fault) => text::refused(card::number(fault), out),
         CardCheck::Good { k, m } => listing(card, k, m, entries, out),
     }

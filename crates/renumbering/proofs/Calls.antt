@@ -12,14 +12,14 @@ use lib.Seq.{getD-take}
 use Rattle.gf2.specs.If.{if_then_else_}
 use Rattle.gf2.proofs.Tests.{T-true, T-false}
 use Rattle.flat.specs.Lists.{padded}
-use Rattle.flat.specs.Cards.{Code, codeOf, disks}
+use Rattle.flat.specs.Cards.{Code, Card, codeOf, disks}
 use Rattle.flat.specs.Strips.{lengthOk, byteOf, holds, encoded}
 use Rattle.flat.specs.Erasures.{erasures}
 use Rattle.flat.specs.Alike.{alike}
 use Rattle.flat.specs.Faults.{Report, accepted, refused, unlessRefused, yesNo, cardReport, withCard, encodeTests, encodeReport, encodeStripe, listReport, erasuresReport, erasuresVector, erasuresSlice, alikeReport}
 use Rattle.flat.proofs.Lists.{entry-map}
 use Rattle.flat.proofs.Reports.{with-accepted, with-out, list-counted, unless-accepted, unless-not}
-use Rattle.flat.proofs.Cards.{card-accepted}
+use Rattle.flat.proofs.Editions.{card-accepted}
 use Rattle.flat.proofs.Words.{holds-cong}
 use Rattle.flat.proofs.Positions.{encoded-byte}
 use Rattle.flat.proofs.Verdicts.{erasures-written}
@@ -33,7 +33,7 @@ unfolding disks
 disks-same A B p q = ap₂ _+_ p q
 
 -- two accepted cards, and a renumbering that carries the one's code to the other's
-module _ (first second : List ℕ) (k m : ℕ) (p : cardReport first ≡ accepted (k ∷ m ∷ [])) (q : cardReport second ≡ accepted (k ∷ m ∷ []))
+module _ (first second : Card) (k m : ℕ) (p : cardReport first ≡ accepted (k ∷ m ∷ [])) (q : cardReport second ≡ accepted (k ∷ m ∷ []))
     (π : ℕ → ℕ) (r : Renumbering (codeOf first) (codeOf second) π) where
   abbrev A : Code
   A = codeOf first
@@ -57,7 +57,7 @@ module _ (first second : List ℕ) (k m : ℕ) (p : cardReport first ≡ accepte
 
   module _ (slice other : List ℕ) (c d : ℕ)
       (a : erasuresReport first (length slice) ≡ accepted (c ∷ [])) (b : erasuresReport second (length other) ≡ accepted (d ∷ [])) where
-    counted : (card : List ℕ) (n c : ℕ) → erasuresReport card n ≡ accepted (c ∷ []) → length (erasures (codeOf card)) ≡ c
+    counted : (card : Card) (n c : ℕ) → erasuresReport card n ≡ accepted (c ∷ []) → length (erasures (codeOf card)) ≡ c
     unfolding erasuresReport
     counted card n c e = list-counted (erasures (codeOf card)) n c (with-out card (c ∷ []) (λ C. listReport (erasures C) n) e .1) .0
 
@@ -66,7 +66,7 @@ module _ (first second : List ℕ) (k m : ℕ) (p : cardReport first ≡ accepte
         sym (counted second (length other) d b) ∙ ap length lists ∙ length-map (erasures A) (renumbered A π) ∙ counted first (length slice) c a
 
     -- an entry that is written is the list's
-    written : (card kept : List ℕ) (n : ℕ) → cardReport card ≡ accepted (k ∷ m ∷ []) → erasuresReport card (length kept) ≡ accepted (n ∷ [])
+    written : (card : Card) (kept : List ℕ) (n : ℕ) → cardReport card ≡ accepted (k ∷ m ∷ []) → erasuresReport card (length kept) ≡ accepted (n ∷ [])
         → (e : ℕ) → e < n → getD (erasuresSlice card kept) e 0 ≡ getD (erasures (codeOf card)) e 0
     written card kept n ok f e l =
         sym (getD-take n (erasuresSlice card kept) e 0 l) ∙ ap (λ (xs : List ℕ). getD xs e 0) (erasures-written card k m ok kept n f)
@@ -89,7 +89,7 @@ module _ (first second : List ℕ) (k m : ℕ) (p : cardReport first ≡ accepte
   module _ (L t d : ℕ) (stripe other : List ℕ) (e : encodeReport first L (length stripe) ≡ accepted []) (f : length other ≡ length stripe)
       (l : t < L) (same : (i : ℕ) → i < A .k → byteOf L other t i ≡ byteOf L stripe t i) (h : d < disks A) where
     -- a byte that the encoder leaves
-    left : (card s : List ℕ) (i : ℕ) → encodeReport card L (length s) ≡ accepted [] → i < disks (codeOf card)
+    left : (card : Card) (s : List ℕ) (i : ℕ) → encodeReport card L (length s) ≡ accepted [] → i < disks (codeOf card)
         → byteOf L (encodeStripe card L s) t i ≡ holds (codeOf card) (byteOf L s t) i
     unfolding encodeStripe
     left card s i g b =
@@ -128,7 +128,7 @@ unfolding yesNo
 said-no true e t = omega arith
 said-no false e t = t
 
-module _ (first second : List ℕ) where
+module _ (first second : Card) where
   abbrev same : Bool
   same = alike (codeOf first) (codeOf second)
 

@@ -3,12 +3,12 @@
 -- Assumes nothing.
 use mathlib.Core.Path.{_≡_}
 use mathlib.Core.Bool.{Bool, true, false, _&&_}
-use mathlib.Core.List.{List, [], _∷_}
-use Prim.Native.Nat.{ℕ, _+_, _-_, _%_}
+use mathlib.Core.List.{[], _∷_}
+use Prim.Native.Nat.{_+_, _-_, _%_}
 use lib.Dec.{eqb}
 use Rattle.gf2.specs.Sets.{first, over}
 use Rattle.flat.specs.Lists.{every, sum, same, member}
-use Rattle.flat.specs.Cards.{Code, code, column}
+use Rattle.flat.specs.Cards.{Code, code, column, editionOne}
 use Rattle.flat.specs.Erasures.{vector}
 use Rattle.flat.specs.Alike.{alike}
 use Rattle.flat.specs.Faults.{accepted, alikeReport}
@@ -91,6 +91,6 @@ NotInverse =
 -- C1's card with its columns in another order, and with another column.
 abbrev pub Answers : Type 0
 Answers =
-    let card : List ℕ = 4 ∷ 3 ∷ 7 ∷ 0 ∷ 11 ∷ 0 ∷ 13 ∷ 0 ∷ [] in
-    (alikeReport card (4 ∷ 3 ∷ 13 ∷ 0 ∷ 7 ∷ 0 ∷ 11 ∷ 0 ∷ []) ≡ accepted (1 ∷ []))
-    × (alikeReport card (4 ∷ 3 ∷ 7 ∷ 0 ∷ 11 ∷ 0 ∷ 14 ∷ 0 ∷ []) ≡ accepted (0 ∷ []))
+    let card = editionOne (4 ∷ 3 ∷ 7 ∷ 0 ∷ 11 ∷ 0 ∷ 13 ∷ 0 ∷ []) in
+    (alikeReport card (editionOne (4 ∷ 3 ∷ 13 ∷ 0 ∷ 7 ∷ 0 ∷ 11 ∷ 0 ∷ [])) ≡ accepted (1 ∷ []))
+    × (alikeReport card (editionOne (4 ∷ 3 ∷ 7 ∷ 0 ∷ 11 ∷ 0 ∷ 14 ∷ 0 ∷ [])) ≡ accepted (0 ∷ []))

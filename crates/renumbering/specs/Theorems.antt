@@ -8,7 +8,7 @@ use lib.Dec.{T}
 use lib.ListN.{length, getD}
 use Rattle.gf2.specs.Sets.{has}
 use Rattle.flat.specs.Lists.{Permutes}
-use Rattle.flat.specs.Cards.{Code, codeOf, disks}
+use Rattle.flat.specs.Cards.{Code, Card, codeOf, disks}
 use Rattle.flat.specs.Strips.{byteOf, holds}
 use Rattle.flat.specs.Erasures.{erasures, vector}
 use Rattle.flat.specs.Alike.{occurrences, asOften, rearranged, alike}
@@ -61,7 +61,7 @@ ErasuresMatch =
 -- Of two cards, with such a renumbering: the lister gives the same answer for both, and the same vector; of what it writes for them, into any two
 -- slices that it accepts, entry e of the second card is that of the first, renumbered, and there are as many; the encoder gives the same answer
 -- for both, and makes of the same data strips the same strips, each at its disk's new place.
-pub record Matched (first second : List ℕ) (π : ℕ → ℕ) : Type 0 where
+pub record Matched (first second : Card) (π : ℕ → ℕ) : Type 0 where
   pub answers : (n : ℕ) → erasuresReport second n ≡ erasuresReport first n
   pub vectors : (n : ℕ) → erasuresVector second n ≡ erasuresVector first n
   pub lists : (slice other : List ℕ) (c d : ℕ)
@@ -75,12 +75,12 @@ pub record Matched (first second : List ℕ) (π : ℕ → ℕ) : Type 0 where
       → byteOf L (encodeStripe second L other) t (place (codeOf first) π d) ≡ byteOf L (encodeStripe first L stripe) t d
 
 -- a card that is accepted
-abbrev pub Read : List ℕ → Type 0
+abbrev pub Read : Card → Type 0
 Read card = (k : ℕ) × (m : ℕ) × (cardReport card ≡ accepted (k ∷ m ∷ []))
 
 -- What the call answers: the first card's refusal, then the second's; yes exactly where both cards are accepted and some renumbering carries the
 -- first to the second, and no exactly where both are accepted and none does. Where it answers yes, the cards match by each that does.
-pub record RightAlike (first second : List ℕ) : Type 0 where
+pub record RightAlike (first second : Card) : Type 0 where
   pub first-refused : cardReport first .number ≢ 0 → alikeReport first second ≡ cardReport first
   pub second-refused : Read first → cardReport second .number ≢ 0 → alikeReport first second ≡ cardReport second
   pub yes : (alikeReport first second ≡ accepted (1 ∷ []))
@@ -90,4 +90,4 @@ pub record RightAlike (first second : List ℕ) : Type 0 where
   pub matched : alikeReport first second ≡ accepted (1 ∷ []) → (π : ℕ → ℕ) → Renumbering (codeOf first) (codeOf second) π → Matched first second π
 
 abbrev pub AlikeAnswered : Type 0
-AlikeAnswered = (first second : List ℕ) → RightAlike first second
+AlikeAnswered = (first second : Card) → RightAlike first second

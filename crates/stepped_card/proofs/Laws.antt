@@ -11,6 +11,7 @@ use lib.ListN.{length, getD, take, length-take}
 use Rattle.gf2.specs.Sets.{has}
 use Rattle.gf2.proofs.Made.{set-cong}
 use Rattle.flat.specs.Lists.{setOf, padded, tabulate}
+use Rattle.flat.specs.declared.Edition.the-variants.{First}
 use Rattle.flat.specs.Cards.{code, countOk, cardLength, cardBytes}
 use Rattle.flat.specs.Faults.{Report, accepted, refused, cardWriteBuffer}
 use Rattle.flat.proofs.Lists.{length-padded, getD-padded, take-padded, length-tabulate, getD-tabulate}
@@ -129,7 +130,7 @@ module _ (d m k : ℕ) (all : List ℕ) (is : all ≡ padded 16 (stepped d m k .
   pub prefix-fits : m ≤ length all
   prefix-fits = omega (arith, length-columns, length-take m all)
 
-  pub buffer-done : (out : List ℕ) → accepted [] ≡ steppedReport d m k (length out) → cardWriteBuffer (code k m (take m all)) out ≡ steppedBuffer d m k out
+  pub buffer-done : (out : List ℕ) → accepted [] ≡ steppedReport d m k (length out) → cardWriteBuffer First (code k m (take m all)) [] out ≡ steppedBuffer d m k out
   unfolding stepped
   buffer-done out e =
-      ap (λ (cs : List ℕ). cardWriteBuffer (code k m cs) out) many-columns ∙ sym (same-written d m k out (none-refused d m k (length out) e))
+      ap (λ (cs : List ℕ). cardWriteBuffer First (code k m cs) [] out) many-columns ∙ sym (same-written d m k out (none-refused d m k (length out) e))

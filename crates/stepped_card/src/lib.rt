@@ -12,6 +12,7 @@ ghost use Rattle.flat.specs.Lists.{setOf, padded};
 ghost use Rattle.stepped_codes.specs.Stepped.{distanceOk, paritySets, stepped, withinBounds};
 ghost use Rattle.stepped_codes.specs.Faults.{steppedReport, steppedBuffer};
 ghost use Rattle.stepped_card.specs.Reports.{report};
+use card::Edition;
 
 // The answer: written, k or m outside 1 to 16, a distance that is neither 3 nor 4, k outside the bounds for d and m, or a
 // buffer of another length.
@@ -111,7 +112,7 @@ pub fn write(d: usize, m: usize, k: usize, out: &mut [u8]) -> SteppedWritten
     match answer {
         SteppedWritten::Done => {
             let all = columns(d, m, k);
-            let _ = card_writer::write(k, m, &all[..m], out);
+            let _ = card_writer::write(Edition::First, k, m, &all[..m], b"", out);
             answer
         }
         SteppedWritten::DataCount => answer,

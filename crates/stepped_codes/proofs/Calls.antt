@@ -14,12 +14,13 @@ use Rattle.gf2.proofs.Subsets.{⊆-refl}
 use Rattle.gf2.proofs.Sizes.{size-⊆}
 use Rattle.gf2.proofs.Made.{has-set}
 use Rattle.flat.specs.Lists.{member}
-use Rattle.flat.specs.Cards.{Code, countOk, cardLength, cardBytes, codeOf, column}
+use Rattle.flat.specs.declared.Edition.the-variants.{First}
+use Rattle.flat.specs.Cards.{Code, countOk, cardLength, cardBytes, editionBytes, codeOf, column, editionOne}
 use Rattle.flat.specs.Erasures.{fatal, erasures}
 use Rattle.flat.specs.Faults.{accepted, cardReport, cardWriteReport, cardWriteBuffer, erasuresReport, erasuresSlice}
 use Rattle.flat.proofs.Lists.{length-tabulate, getD-tabulate}
 use Rattle.flat.proofs.Cards.{Sound}
-use Rattle.flat.proofs.RoundTrip.{Writable, write-accepted}
+use Rattle.flat.proofs.RoundTrip.{Writable, one-writable, write-accepted}
 use Rattle.flat.proofs.Reports.{passed-number, unless-accepted}
 use Rattle.flat.proofs.Verdicts.{erasures-written}
 use Rattle.flat.proofs.Theorems.{card-reads-back, fatal-holds-listed}
@@ -63,9 +64,9 @@ module _ (d m k n : ℕ) (p : Passed d m k n) where
       go zero t = absurd (no-parity d k t)
       go (suc i) t = enough d i k (p .d-ok) t
 
-  pub card-writable : Writable (stepped d m k) n
+  pub card-writable : Writable First (stepped d m k) [] n
   unfolding stepped
-  card-writable = record { sound = go m (p .m-ok) (p .within); many = length-tabulate m (steppedColumn d m k); size = p .long }
+  card-writable = one-writable (stepped d m k) n (go m (p .m-ok) (p .within)) (length-tabulate m (steppedColumn d m k)) (p .long)
     where
       go : (m : ℕ) → countOk m ≡ true → T (withinBounds d m k) → Sound (stepped d m k)
       go zero o t = absurd (no-parity d k t)
@@ -97,12 +98,12 @@ named-by d m k i j h l =
     ap (λ (c : ℕ). has c i) (getD-tabulate m (steppedColumn d m k) j l) ∙ has-set k (λ e. has (paritySet d m e) j) i h
 
 -- where the call writes, it writes what the card writer does
-pub same-written : (d m k : ℕ) (buffer : List ℕ) → Passed d m k (length buffer) → steppedBuffer d m k buffer ≡ cardWriteBuffer (stepped d m k) buffer
-unfolding steppedBuffer cardWriteBuffer
+pub same-written : (d m k : ℕ) (buffer : List ℕ) → Passed d m k (length buffer) → steppedBuffer d m k buffer ≡ cardWriteBuffer First (stepped d m k) [] buffer
+unfolding steppedBuffer cardWriteBuffer editionBytes
 same-written d m k buffer p =
     let C = stepped d m k in
     unless-accepted (steppedReport d m k (length buffer)) [] (cardBytes C) buffer (p .answered)
-    ∙ sym (unless-accepted (cardWriteReport C (length buffer)) [] (cardBytes C) buffer (write-accepted C (length buffer) (card-writable d m k (length buffer) p)))
+    ∙ sym (unless-accepted (cardWriteReport First C [] (length buffer)) [] (cardBytes C) buffer (write-accepted First C [] (length buffer) (card-writable d m k (length buffer) p)))
 
 pub stepped-accepted : SteppedAccepted
 unfolding stepped
@@ -110,11 +111,11 @@ stepped-accepted d m k buffer e =
     let n = length buffer in
     let p = call-passed d m k n e in
     let C = stepped d m k in
-    let card = steppedBuffer d m k buffer in
-    let same = same-written d m k buffer p in
-    let back = card-reads-back C buffer (write-accepted C n (card-writable d m k n p)) in
+    let card = editionOne (steppedBuffer d m k buffer) in
+    let same = ap editionOne (same-written d m k buffer p) in
+    let back = card-reads-back First C [] buffer (write-accepted First C [] n (card-writable d m k n p)) in
     let read : cardReport card ≡ accepted (k ∷ m ∷ []) = ap cardReport same ∙ back .0 in
-    let is : codeOf card ≡ C = ap codeOf same ∙ back .2 in
+    let is : codeOf card ≡ C = ap codeOf same ∙ back .3 in
     let written : (slice : List ℕ) (count : ℕ) → erasuresReport card (length slice) ≡ accepted (count ∷ [])
     → take count (erasuresSlice card slice) ≡ erasures C =
     λ slice count a. erasures-written card k m read slice count a ∙ ap erasures is in

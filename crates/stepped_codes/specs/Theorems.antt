@@ -8,7 +8,7 @@ use lib.Dec.{T, eqb}
 use lib.ListN.{length, getD, take}
 use Rattle.gf2.specs.Sets.{has, size}
 use Rattle.flat.specs.Lists.{range, filter, member}
-use Rattle.flat.specs.Cards.{codeOf, column}
+use Rattle.flat.specs.Cards.{codeOf, column, editionOne}
 use Rattle.flat.specs.Erasures.{fatal}
 use Rattle.flat.specs.Faults.{accepted, cardReport, erasuresReport, erasuresSlice}
 use Rattle.stepped_codes.specs.Stepped.{distanceOk, sizeOk, paritySets, paritySet, stepped, choose, withinBounds}
@@ -86,14 +86,14 @@ Distance = (d m k S : ℕ) → T (distanceOk d) → T (withinBounds d m k) → T
 -- slice that it accepts, is smaller than d, and one has d disks.
 pub record RightStepped (d m k : ℕ) (buffer : List ℕ) : Type 0 where
   pub answer : steppedReport d m k (length buffer) ≡ accepted []
-  pub read : cardReport (steppedBuffer d m k buffer) ≡ accepted (k ∷ m ∷ [])
-  pub code : codeOf (steppedBuffer d m k buffer) ≡ stepped d m k
-  pub named : (i j : ℕ) → i < k → j < m → has (column (codeOf (steppedBuffer d m k buffer)) j) i ≡ has (paritySet d m i) j
+  pub read : cardReport (editionOne (steppedBuffer d m k buffer)) ≡ accepted (k ∷ m ∷ [])
+  pub code : codeOf (editionOne (steppedBuffer d m k buffer)) ≡ stepped d m k
+  pub named : (i j : ℕ) → i < k → j < m → has (column (codeOf (editionOne (steppedBuffer d m k buffer))) j) i ≡ has (paritySet d m i) j
   pub enough : k ≤ length (paritySets d m)
-  pub listed : (slice : List ℕ) (count S : ℕ) → erasuresReport (steppedBuffer d m k buffer) (length slice) ≡ accepted (count ∷ [])
-      → T (member S (take count (erasuresSlice (steppedBuffer d m k buffer) slice))) → d ≤ size S
-  pub least : (slice : List ℕ) (count : ℕ) → erasuresReport (steppedBuffer d m k buffer) (length slice) ≡ accepted (count ∷ [])
-      → (S : ℕ) × T (member S (take count (erasuresSlice (steppedBuffer d m k buffer) slice))) × (size S ≡ d)
+  pub listed : (slice : List ℕ) (count S : ℕ) → erasuresReport (editionOne (steppedBuffer d m k buffer)) (length slice) ≡ accepted (count ∷ [])
+      → T (member S (take count (erasuresSlice (editionOne (steppedBuffer d m k buffer)) slice))) → d ≤ size S
+  pub least : (slice : List ℕ) (count : ℕ) → erasuresReport (editionOne (steppedBuffer d m k buffer)) (length slice) ≡ accepted (count ∷ [])
+      → (S : ℕ) × T (member S (take count (erasuresSlice (editionOne (steppedBuffer d m k buffer)) slice))) × (size S ≡ d)
 
 -- Each call whose number is 0 does this.
 abbrev pub SteppedAccepted : Type 0

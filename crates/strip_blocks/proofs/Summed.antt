@@ -12,7 +12,7 @@ use Rattle.gf2.specs.Sets.{has, _⊕_, over}
 use Rattle.gf2.proofs.Xor.{⊕-zero}
 use Rattle.flat.specs.Lists.{tabulate}
 use Rattle.flat.specs.Strips.{byteOf}
-use Rattle.flat.proofs.Lists.{zeros, getD-tabulate, tabulate-cong}
+use Rattle.flat.proofs.Lists.{constant, getD-tabulate, tabulate-cong}
 
 -- ---- a block of w bytes, of which byte t is f i t, where i tells how far the loop is
 
@@ -20,7 +20,7 @@ pub record Summed (w : ℕ) (f : ℕ → ℕ → ℕ) (i : ℕ) (block : List �
   pub so-far : block ≡ tabulate w (f i)
 
 pub summed-none : (w : ℕ) (f : ℕ → ℕ → ℕ) (i : ℕ) → ((t : ℕ) → f i t ≡ 0) → Summed w f i (replicate w 0)
-summed-none w f i z = record { so-far = zeros w ∙ tabulate-cong w (λ t. 0) (f i) (λ t h. sym (z t)) }
+summed-none w f i z = record { so-far = constant w 0 ∙ tabulate-cong w (λ t. 0) (f i) (λ t h. sym (z t)) }
 
 -- a turn XORs bytes in
 pub summed-more : (w : ℕ) (f : ℕ → ℕ → ℕ) (i j : ℕ) (block next : List ℕ) (x : ℕ → ℕ) → Summed w f i block

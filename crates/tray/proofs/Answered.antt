@@ -11,7 +11,7 @@ use lib.Dec.{T, ltb, leb}
 use lib.ListN.{length, getD}
 use Rattle.gf2.proofs.Tests.{true-T, false-T, T-true, T-false, T-ext, and-in, and-out, leb-in, leb-out, below-suc}
 use Rattle.flat.specs.Lists.{every, padded}
-use Rattle.flat.specs.Cards.{Code, code, disks, setOk, codeOf, columnBytes, codeIn}
+use Rattle.flat.specs.Cards.{Code, code, Card, disks, setOk, codeOf, columnBytes, codeIn}
 use Rattle.flat.specs.Strips.{lengthOk}
 use Rattle.flat.specs.Faults.{Report, accepted, refused, unlessRefused, cardReport}
 use Rattle.flat.proofs.Quantifiers.{every-in, every-out}
@@ -87,7 +87,7 @@ left-alone r n sets bytes left tray e l =
 
 -- ---- a good card, and a bad one
 
-module _ (card : List ℕ) (L budget : ℕ) (Ss tray : List ℕ) where
+module _ (card : Card) (L budget : ℕ) (Ss tray : List ℕ) where
   pub good-report : (k m : ℕ) → GoodCard card k m → trayReport card L budget Ss tray ≡ trayTests (codeIn k m (columnBytes card)) L budget Ss tray
   unfolding trayReport
   good-report k m g = good-with card k m (λ C. trayTests C L budget Ss tray) g

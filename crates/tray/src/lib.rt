@@ -9,7 +9,7 @@ ghost use Prim.Native.Nat.{_+_, _*_, _^_, _≤_};
 ghost use lib.Dec.{ltb};
 ghost use lib.ListN.{length, getD, take, drop};
 ghost use Rattle.flat.specs.Lists.{every, padded, put};
-ghost use Rattle.flat.specs.Cards.{codeIn};
+ghost use Rattle.flat.specs.Cards.{codeIn, cardOf};
 ghost use Rattle.flat.specs.Faults.{unlessRefused};
 ghost use Rattle.card.specs.Columns.{Columns};
 ghost use Rattle.peeling.specs.Peeling.{peeled};
@@ -18,6 +18,7 @@ ghost use Rattle.peeling.specs.Faults.{trayOk, trayTests, trayReport, trayLefts
 ghost use Rattle.tray.specs.Reports.{report};
 use card::CardCheck;
 use card::CardFault;
+use card::Edition;
 use peeler::Made;
 
 // Quick repair's answer: the steps made, the card's fault, a strip length that is none, a tray of no stripes
@@ -161,15 +162,22 @@ fn repair_columns(
 }
 
 // Quick repair: the stripes of a tray in turn, each step by step until it sticks, within one budget of steps.
-pub fn repair(card: &[u8], l: usize, sets: &[u32], budget: usize, tray: &mut [u8]) -> TrayRepair
-    ensures { λ r. ⌜ report (r .answer) ≡ trayReport (now (card .entry)) l budget (now (sets .entry)) (now (tray .entry)) ⌝ }
-    ensures { λ r. ⌜ r .left ≡ trayLefts (now (card .entry)) l budget (now (sets .entry)) (now (tray .entry)) ⌝ }
-    ensures { λ _. ⌜ now (tray .exit) ≡ trayBytes (now (card .entry)) l budget (now (sets .entry)) (now (tray .entry)) ⌝ }
+pub fn repair(
+    edition: Edition,
+    card: &[u8],
+    l: usize,
+    sets: &[u32],
+    budget: usize,
+    tray: &mut [u8],
+) -> TrayRepair
+    ensures { λ r. ⌜ report (r .answer) ≡ trayReport (cardOf edition (now (card .entry))) l budget (now (sets .entry)) (now (tray .entry)) ⌝ }
+    ensures { λ r. ⌜ r .left ≡ trayLefts (cardOf edition (now (card .entry))) l budget (now (sets .entry)) (now (tray .entry)) ⌝ }
+    ensures { λ _. ⌜ now (tray .exit) ≡ trayBytes (cardOf edition (now (card .entry))) l budget (now (sets .entry)) (now (tray .entry)) ⌝ }
 {
-    match card::check(card) {
+    match card::check(edition, card) {
         CardCheck::Bad(fault) => refused(Repaired::Card(fault)),
         CardCheck::Good { k, m } => repair_columns(
-            card::columns(card),
+            card::columns(edition, card),
             k,
             m,
             l,

@@ -8,7 +8,7 @@ use Prim.Native.Nat.{ℕ, _+_, _*_, _≤_, _<_}
 use native.Mathlib.Omega.{arith}
 use borrow.Author.Tests.{eq-eqb, ne-eqb, lt-ltb, le-ltb}
 use lib.ListN.{length}
-use Rattle.flat.specs.Cards.{Code, code, disks, codeOf, columnBytes, codeIn}
+use Rattle.flat.specs.Cards.{Code, code, Card, disks, codeOf, columnBytes, codeIn}
 use Rattle.flat.specs.Strips.{lengthOk}
 use Rattle.flat.specs.Faults.{Report, accepted, refused, unlessRefused, cardReport}
 use Rattle.card.specs.declared.CardFault.{CardFault}
@@ -56,7 +56,7 @@ module _ (k m : ℕ) (columns : List ℕ) (L n d p : ℕ) where
 
 -- ---- a good card, and a bad one
 
-module _ (card : List ℕ) (L : ℕ) (stripe : List ℕ) (d : ℕ) (new : List ℕ) where
+module _ (card : Card) (L : ℕ) (stripe : List ℕ) (d : ℕ) (new : List ℕ) where
   pub good-report : (k m : ℕ) → GoodCard card k m
       → updateReport card L (length stripe) d (length new) ≡ updateTests (codeIn k m (columnBytes card)) L (length stripe) d (length new)
   unfolding updateReport

@@ -7,7 +7,7 @@ ghost use mathlib.Core.Path.{_≡_};
 ghost use Prim.Native.Nat.{ℕ, _+_, _*_, _<_, _≤_};
 ghost use lib.ListN.{length, getD};
 ghost use Rattle.gf2.specs.Sets.{over};
-ghost use Rattle.flat.specs.Cards.{codeIn};
+ghost use Rattle.flat.specs.Cards.{codeIn, cardOf};
 ghost use Rattle.flat.specs.Faults.{unlessRefused};
 ghost use Rattle.card.specs.Columns.{Columns};
 ghost use Rattle.strip_blocks.specs.Totals.{total};
@@ -17,6 +17,7 @@ ghost use Rattle.updater.specs.Names.{names};
 ghost use Rattle.updater.specs.Reports.{report};
 use card::CardCheck;
 use card::CardFault;
+use card::Edition;
 
 // The update's answer: how many strips were rewritten, the card's fault, a strip length that is none, a disk
 // that the code lacks, a parity disk, a stripe of another length, or a new strip of another length.
@@ -98,12 +99,27 @@ fn update_columns(
 
 // The update: the strip of the data disk becomes the new one, and each byte of the parities that name the
 // disk is XORed with the old and the new data byte.
-pub fn update(card: &[u8], l: usize, stripe: &mut [u8], disk: usize, new: &[u8]) -> Updated
-    ensures { λ r. ⌜ report r ≡ updateReport (now (card .entry)) l (length (now (stripe .entry))) disk (length (now (new .entry))) ⌝ }
-    ensures { λ _. ⌜ now (stripe .exit) ≡ updateStripe (now (card .entry)) l (now (stripe .entry)) disk (now (new .entry)) ⌝ }
+pub fn update(
+    edition: Edition,
+    card: &[u8],
+    l: usize,
+    stripe: &mut [u8],
+    disk: usize,
+    new: &[u8],
+) -> Updated
+    ensures { λ r. ⌜ report r ≡ updateReport (cardOf edition (now (card .entry))) l (length (now (stripe .entry))) disk (length (now (new .entry))) ⌝ }
+    ensures { λ _. ⌜ now (stripe .exit) ≡ updateStripe (cardOf edition (now (card .entry))) l (now (stripe .entry)) disk (now (new .entry)) ⌝ }
 {
-    match card::check(card) {
+    match card::check(edition, card) {
         CardCheck::Bad(fault) => Updated::Card(fault),
-        CardCheck::Good { k, m } => update_columns(card::columns(card), k, m, l, stripe, disk, new),
+        CardCheck::Good { k, m } => update_columns(
+            card::columns(edition, card),
+            k,
+            m,
+            l,
+            stripe,
+            disk,
+            new,
+        ),
     }
 }

@@ -10,12 +10,12 @@ use lib.Dec.{eqb, ltb}
 use lib.ListN.{length}
 use Rattle.gf2.proofs.Tests.{true-T, ltb-out}
 use Rattle.flat.specs.Lists.{put}
-use Rattle.flat.specs.Cards.{Code, codeOf, disks}
+use Rattle.flat.specs.Cards.{Code, Card, codeOf, disks}
 use Rattle.flat.specs.Strips.{lengthOk, byteOf, encoded}
 use Rattle.flat.specs.Faults.{Report, accepted, cardReport, encodeTests, encodeReport, encodeStripe}
 use Rattle.flat.proofs.Lists.{length-put}
 use Rattle.flat.proofs.Reports.{passed-number, unless-number, unless-accepted, with-accepted, with-card, with-number}
-use Rattle.flat.proofs.Cards.{card-accepted}
+use Rattle.flat.proofs.Editions.{card-accepted}
 use Rattle.flat.proofs.Positions.{strip-within}
 use Rattle.updating.specs.Updating.{updated, naming}
 use Rattle.updating.specs.Faults.{updateTests, updateReport, updateStripe}
@@ -24,7 +24,7 @@ use Rattle.updating.proofs.Rows.{row-names}
 use Rattle.updating.proofs.Bytes.{update-length, update-byte, changes, afresh, update-xors}
 
 -- what the tests of an accepted call tell
-record Passed (card : List ℕ) (L n d p : ℕ) : Type 0 where
+record Passed (card : Card) (L n d p : ℕ) : Type 0 where
   card-ok : cardReport card .number ≡ 0
   length-ok : lengthOk L ≡ true
   data-disk : d < codeOf card .k
@@ -32,7 +32,7 @@ record Passed (card : List ℕ) (L n d p : ℕ) : Type 0 where
   new-long : p ≡ L
   answered : updateReport card L n d p ≡ accepted ((1 + naming (codeOf card) d) ∷ [])
 
-call-passed : (card : List ℕ) (L n d p : ℕ) → updateReport card L n d p .number ≡ 0 → Passed card L n d p
+call-passed : (card : Card) (L n d p : ℕ) → updateReport card L n d p .number ≡ 0 → Passed card L n d p
 unfolding updateReport updateTests
 call-passed card L n d p h =
     let C = codeOf card in
@@ -53,7 +53,7 @@ call-passed card L n d p h =
     }
 
 -- what encoding leaves, of a card and a strip length that are accepted
-encode-is : (card : List ℕ) (L : ℕ) (stripe : List ℕ) → cardReport card .number ≡ 0 → lengthOk L ≡ true → length stripe ≡ disks (codeOf card) * L
+encode-is : (card : Card) (L : ℕ) (stripe : List ℕ) → cardReport card .number ≡ 0 → lengthOk L ≡ true → length stripe ≡ disks (codeOf card) * L
     → encodeStripe card L stripe ≡ encoded (codeOf card) L stripe
 unfolding encodeStripe encodeReport encodeTests
 encode-is card L stripe n ok e =

@@ -7,7 +7,7 @@ use Prim.Native.Nat.{ℕ, _+_, _*_}
 use lib.Dec.{eqb, ltb}
 use lib.ListN.{length}
 use Rattle.gf2.specs.If.{if_then_else_}
-use Rattle.flat.specs.Cards.{Code, codeOf, disks}
+use Rattle.flat.specs.Cards.{Code, Card, codeOf, disks}
 use Rattle.flat.specs.Strips.{lengthOk}
 use Rattle.flat.specs.Faults.{Report, accepted, refused, unlessRefused, withCard}
 use Rattle.updating.specs.Updating.{updated, naming}
@@ -23,11 +23,11 @@ updateTests C L n d p =
     if not (eqb p L) then refused 19 [] else
     accepted ((1 + naming C d) ∷ [])
 
-unfoldable pub updateReport : List ℕ → ℕ → ℕ → ℕ → ℕ → Report
+unfoldable pub updateReport : Card → ℕ → ℕ → ℕ → ℕ → Report
 unfolding withCard updateTests
 updateReport card L n d p = withCard card (λ C. updateTests C L n d p)
 
-unfoldable pub updateStripe : List ℕ → ℕ → List ℕ → ℕ → List ℕ → List ℕ
+unfoldable pub updateStripe : Card → ℕ → List ℕ → ℕ → List ℕ → List ℕ
 unfolding unlessRefused updateReport updated codeOf
 updateStripe card L stripe d new =
     unlessRefused (updateReport card L (length stripe) d (length new)) (updated (codeOf card) L d new stripe) stripe

@@ -9,7 +9,7 @@ use lib.ListN.{length, getD}
 use Rattle.gf2.specs.If.{if_then_else_}
 use Rattle.gf2.specs.Sets.{has, size, _⊕_}
 use Rattle.flat.specs.Lists.{put}
-use Rattle.flat.specs.Cards.{Code, codeOf, disks, column}
+use Rattle.flat.specs.Cards.{Code, Card, codeOf, disks, column}
 use Rattle.flat.specs.Strips.{byteOf, encoded}
 use Rattle.flat.specs.Checks.{row}
 use Rattle.flat.specs.Faults.{accepted, encodeStripe}
@@ -62,7 +62,7 @@ UpdateKeepsLength = (C : Code) (L d : ℕ) (new stripe : List ℕ) → length (u
 
 -- What an accepted call answers, and what it leaves in the stripe: its length, each byte, the new strip in its place, which bytes changed, and on an
 -- encoded stripe what the encoder makes of it with the new strip.
-pub record RightUpdate (card : List ℕ) (L : ℕ) (stripe : List ℕ) (d : ℕ) (new : List ℕ) : Type 0 where
+pub record RightUpdate (card : Card) (L : ℕ) (stripe : List ℕ) (d : ℕ) (new : List ℕ) : Type 0 where
   pub answer : updateReport card L (length stripe) d (length new) ≡ accepted ((1 + naming (codeOf card) d) ∷ [])
   pub most : 1 + naming (codeOf card) d ≤ codeOf card .m + 1
   pub long : length (updateStripe card L stripe d new) ≡ length stripe
@@ -78,5 +78,5 @@ pub record RightUpdate (card : List ℕ) (L : ℕ) (stripe : List ℕ) (d : ℕ)
 -- Each call whose number is 0 does this.
 abbrev pub UpdateAccepted : Type 0
 UpdateAccepted =
-    (card : List ℕ) (L : ℕ) (stripe : List ℕ) (d : ℕ) (new : List ℕ)
+    (card : Card) (L : ℕ) (stripe : List ℕ) (d : ℕ) (new : List ℕ)
     → updateReport card L (length stripe) d (length new) .number ≡ 0 → RightUpdate card L stripe d new

@@ -7,7 +7,7 @@ use Prim.Native.Nat.{ℕ, _+_, _^_}
 use lib.Dec.{ltb}
 use Rattle.gf2.specs.Sets.{union}
 use Rattle.gf2.specs.Within.{within}
-use Rattle.flat.specs.Cards.{code, disks, setOk, columnBytes, codeIn}
+use Rattle.flat.specs.Cards.{Card, code, disks, setOk, columnBytes, codeIn}
 use Rattle.flat.specs.Spans.{rows}
 use Rattle.flat.specs.Faults.{accepted, refused, cardReport, verdictTests, verdictReport}
 use Rattle.repairs.proofs.Callers.{undetermined-is}
@@ -26,10 +26,10 @@ module _ (k m : ℕ) (columns : List ℕ) (S : ℕ) where
   unfolding verdictTests setOk disks
   undetermined-report inside bs r is e = let C = code k m columns in simp (inside, e ∙ undetermined-is C S bs is)
 
-pub good-report : (card : List ℕ) (k m S : ℕ) → GoodCard card k m → verdictTests (codeIn k m (columnBytes card)) S ≡ verdictReport card S
+pub good-report : (card : Card) (k m S : ℕ) → GoodCard card k m → verdictTests (codeIn k m (columnBytes card)) S ≡ verdictReport card S
 unfolding verdictReport
 good-report card k m S g = sym (good-with card k m (λ C. verdictTests C S) g)
 
-pub bad-report : (card : List ℕ) (S : ℕ) (f : CardFault) → checkReport (Bad f) ≡ cardReport card → faultReport f ≡ verdictReport card S
+pub bad-report : (card : Card) (S : ℕ) (f : CardFault) → checkReport (Bad f) ≡ cardReport card → faultReport f ≡ verdictReport card S
 unfolding verdictReport
 bad-report card S f e = sym (bad-card card f (λ C. verdictTests C S) e)

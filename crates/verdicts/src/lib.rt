@@ -3,12 +3,13 @@
 // Every byte string and set is a legal argument. What is answered for which input is said in
 // flat/specs/Faults.antt.
 ghost use mathlib.Core.Path.{_≡_};
-ghost use Rattle.flat.specs.Cards.{codeIn};
+ghost use Rattle.flat.specs.Cards.{codeIn, cardOf};
 ghost use Rattle.flat.specs.Faults.{verdictTests, verdictReport};
 ghost use Rattle.card.specs.Columns.{Columns};
 ghost use Rattle.verdicts.specs.Reports.{report};
 use card::CardCheck;
 use card::CardFault;
+use card::Edition;
 
 // The verdict call's answer: the disks of the set that the survivors don't determine, the card's fault, or a
 // set with a disk that the code lacks.
@@ -32,11 +33,11 @@ fn verdict_columns(columns: &[u8], k: usize, m: usize, set: u32) -> SetVerdict
 
 // The verdict call: the disks of the set that the survivors don't determine. The loss of the set is fatal where
 // there is such a disk.
-pub fn verdict(card: &[u8], set: u32) -> SetVerdict
-    ensures { λ r. ⌜ report r ≡ verdictReport (now (card .entry)) set ⌝ }
+pub fn verdict(edition: Edition, card: &[u8], set: u32) -> SetVerdict
+    ensures { λ r. ⌜ report r ≡ verdictReport (cardOf edition (now (card .entry))) set ⌝ }
 {
-    match card::check(card) {
+    match card::check(edition, card) {
         CardCheck::Bad(fault) => SetVerdict::Card(fault),
-        CardCheck::Good { k, m } => verdict_columns(card::columns(card), k, m, set),
+        CardCheck::Good { k, m } => verdict_columns(card::columns(edition, card), k, m, set),
     }
 }

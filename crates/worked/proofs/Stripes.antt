@@ -8,7 +8,7 @@ use lib.Dec.{T}
 use lib.ListN.{length, drop}
 use Rattle.gf2.specs.Sets.{size}
 use Rattle.flat.specs.Lists.{Bytes}
-use Rattle.flat.specs.Cards.{cardBytes, codeOf, disks, setOk}
+use Rattle.flat.specs.Cards.{cardBytes, codeOf, disks, setOk, editionOne, Card}
 use Rattle.flat.specs.Strips.{lengthOk}
 use Rattle.flat.specs.Erasures.{fatal}
 use Rattle.flat.specs.Rebuilding.{Agreeing, agrees, agreeing, restored}
@@ -22,8 +22,8 @@ use Rattle.flat.proofs.Agreement.{some-agreeing, all-restored-filled}
 use Rattle.flat.proofs.Consistency.{agreeing-consistent}
 use Rattle.demands.proofs.Demand3.{right-rebuild}
 
-abbrev card : List ℕ
-card = cardBytes (C1 .of)
+abbrev card : Card
+card = editionOne (cardBytes (C1 .of))
 
 -- the tests before the search
 card-ok : cardReport card ≡ accepted (4 ∷ 3 ∷ [])
@@ -31,10 +31,10 @@ unfolding cardReport cardBytes
 card-ok = refl
 
 -- a refused call leaves the stripe
-kept : (C : Rebuilt) (n : ℕ) (vs : List ℕ) → rebuildReport (cardBytes (C .of)) (C .L) (C .lost) (C .entry) ≡ refused (suc n) vs
-    → rebuildStripe (cardBytes (C .of)) (C .L) (C .lost) (C .entry) ≡ C .entry
+kept : (C : Rebuilt) (n : ℕ) (vs : List ℕ) → rebuildReport (editionOne (cardBytes (C .of))) (C .L) (C .lost) (C .entry) ≡ refused (suc n) vs
+    → rebuildStripe (editionOne (cardBytes (C .of))) (C .L) (C .lost) (C .entry) ≡ C .entry
 unfolding rebuildStripe
-kept C n vs e = unless-refused (rebuildReport (cardBytes (C .of)) (C .L) (C .lost) (C .entry)) n vs _ (C .entry) e
+kept C n vs e = unless-refused (rebuildReport (editionOne (cardBytes (C .of))) (C .L) (C .lost) (C .entry)) n vs _ (C .entry) e
 
 -- ---- C8
 

@@ -12,7 +12,7 @@ use Rattle.gf2.specs.If.{if_then_else_}
 use Rattle.gf2.specs.Sets.{size, over, _∩_, _⊆_}
 use Rattle.gf2.specs.Span.{select}
 use Rattle.flat.specs.Lists.{some, every, range, filter, orderedBy, member}
-use Rattle.flat.specs.Cards.{Code, disks, dataPart, cardBytes}
+use Rattle.flat.specs.Cards.{Code, disks, dataPart, cardBytes, editionOne}
 use Rattle.flat.specs.Erasures.{holdsBit, agreeOutside, fatal, minimalErasure, erasures}
 use Rattle.flat.specs.Equations.{equation}
 use Rattle.flat.specs.Faults.{Report, accepted, refused, erasuresReport, rebuildReport}
@@ -46,7 +46,7 @@ sticks C S = every (C .m) (λ j. not (eqb (size (check C j ∩ S)) 1))
 abbrev pub StuckRestored : Type 0
 StuckRestored =
     (sticks (C8 .of) (C8 .lost) ≡ true)
-    × (rebuildReport (cardBytes (C8 .of)) (C8 .L) (C8 .lost) (C8 .entry) ≡ C8 .answer)
+    × (rebuildReport (editionOne (cardBytes (C8 .of))) (C8 .L) (C8 .lost) (C8 .entry) ≡ C8 .answer)
 
 -- ---- what is listed
 
@@ -80,7 +80,7 @@ unfolding erasures
 tenUncounted C n = if ltb n (2 ^ C .k - 1) then refused 10 ((2 ^ C .k - 1) ∷ []) else accepted (length (erasures C) ∷ [])
 
 abbrev pub TenIsCounted : Type 0
-TenIsCounted = (tenUncounted (C3 .of) 2 ≡ refused 10 (3 ∷ [])) × (erasuresReport (cardBytes (C3 .of)) 2 ≡ accepted (2 ∷ []))
+TenIsCounted = (tenUncounted (C3 .of) 2 ≡ refused 10 (3 ∷ [])) × (erasuresReport (editionOne (cardBytes (C3 .of))) 2 ≡ accepted (2 ∷ []))
 
 -- ---- in which order
 

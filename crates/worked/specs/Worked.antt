@@ -6,7 +6,7 @@ use mathlib.Core.List.{List, [], _∷_, _++_}
 use Prim.Native.Nat.{ℕ}
 use lib.ListN.{take, drop}
 use Rattle.flat.specs.Lists.{member}
-use Rattle.flat.specs.Cards.{cardBytes}
+use Rattle.flat.specs.Cards.{cardBytes, editionOne}
 use Rattle.flat.specs.Erasures.{fatal, erasures, vector}
 use Rattle.flat.specs.Equations.{equations}
 use Rattle.flat.specs.Faults.{cardReport, encodeStripe, erasuresReport, rebuildReport, rebuildStripe}
@@ -29,17 +29,17 @@ abbrev pub Equates : Equated → Type 0
 Equates C = equations (C .of) (C .disk) ≡ C .list
 
 abbrev pub Encodes : Encoded → Type 0
-Encodes C = encodeStripe (cardBytes (C .of)) (C .L) (C .entry) ≡ C .exit
+Encodes C = encodeStripe (editionOne (cardBytes (C .of))) (C .L) (C .entry) ≡ C .exit
 
 pub record Rebuilds (C : Rebuilt) : Type 0 where
-  pub answer : rebuildReport (cardBytes (C .of)) (C .L) (C .lost) (C .entry) ≡ C .answer
-  pub stripe : rebuildStripe (cardBytes (C .of)) (C .L) (C .lost) (C .entry) ≡ C .exit
+  pub answer : rebuildReport (editionOne (cardBytes (C .of))) (C .L) (C .lost) (C .entry) ≡ C .answer
+  pub stripe : rebuildStripe (editionOne (cardBytes (C .of))) (C .L) (C .lost) (C .entry) ≡ C .exit
 
 abbrev pub Reads : Read → Type 0
-Reads C = cardReport (C .card) ≡ C .answer
+Reads C = cardReport (editionOne (C .card)) ≡ C .answer
 
 abbrev pub Fits : Lent → Type 0
-Fits C = erasuresReport (cardBytes (C .of)) (C .entries) ≡ C .answer
+Fits C = erasuresReport (editionOne (cardBytes (C .of))) (C .entries) ≡ C .answer
 
 -- ---- the proposition
 
@@ -61,7 +61,7 @@ pub record Worked : Type 0 where
 
 -- the parity strips of C7 and the lost strips of C8 may hold any bytes at entry: the same comes out
 pub record AnyBytes : Type 0 where
-  pub parity : (p q r : ℕ) → encodeStripe (cardBytes (C7 .of)) (C7 .L) (take 4 (C7 .entry) ++ (p ∷ q ∷ r ∷ [])) ≡ C7 .exit
+  pub parity : (p q r : ℕ) → encodeStripe (editionOne (cardBytes (C7 .of))) (C7 .L) (take 4 (C7 .entry) ++ (p ∷ q ∷ r ∷ [])) ≡ C7 .exit
   pub lost : (a b c : ℕ)
-      → (rebuildReport (cardBytes (C8 .of)) (C8 .L) (C8 .lost) (a ∷ b ∷ c ∷ drop 3 (C8 .entry)) ≡ C8 .answer)
-      × (rebuildStripe (cardBytes (C8 .of)) (C8 .L) (C8 .lost) (a ∷ b ∷ c ∷ drop 3 (C8 .entry)) ≡ C8 .exit)
+      → (rebuildReport (editionOne (cardBytes (C8 .of))) (C8 .L) (C8 .lost) (a ∷ b ∷ c ∷ drop 3 (C8 .entry)) ≡ C8 .answer)
+      × (rebuildStripe (editionOne (cardBytes (C8 .of))) (C8 .L) (C8 .lost) (a ∷ b ∷ c ∷ drop 3 (C8 .entry)) ≡ C8 .exit)

@@ -5,6 +5,7 @@ use Prim.Native.Nat.{_+_, _≤_}
 use native.Mathlib.Omega.{arith}
 use borrow.Author.Tests.{not-true, not-false}
 use denote.Ref.{now}
+use Rattle.flat.specs.Cards.{cardOf}
 use Rattle.flat.specs.Strips.{lengthOk}
 use Rattle.card.specs.Reports.{report as checkReport}
 use Rattle.card.proofs.Callers.{GoodCard, good}
@@ -27,7 +28,7 @@ enum-known-k c = search needs
 abbrev start : tie.After-known-told2 → tie.Start
 start c = c .before .before .before .before .before .before
 
-known : (c : tie.After-known-told2) → GoodCard (now (start c .args .card)) (c .before .k .given .0 .0) (c .before .k .given .0 .1 .0)
+known : (c : tie.After-known-told2) → GoodCard (cardOf (start c .args .edition) (now (start c .args .card))) (c .before .k .given .0 .0) (c .before .k .given .0 .1 .0)
 known c = good _ _ _ (ap checkReport (sym (c .before .k .given .1)) ∙ c .before .before .before .check .ensures)
 
 length-ok-requires : tie.Need-length-ok-requires
@@ -60,7 +61,7 @@ returns-2 c =
     (e, stripe-kept _ _ _ _ _ e)
 
 columns-requires : tie.Need-columns-requires
-columns-requires c κs = known (c .before .before .before) .long
+columns-requires c κs = known (c .before .before .before) .whole
 
 encode-columns-requires : tie.Need-encode-columns-requires
 encode-columns-requires c κs =

@@ -4,6 +4,7 @@ use native.Mathlib.Omega.{arith}
 use borrow.Author.Needs.{needs}
 use denote.Ref.{now}
 use lib.ListN.{length}
+use Rattle.flat.specs.Cards.{cardOf}
 use Rattle.flat.specs.Faults.{equationsReport}
 use Rattle.card.specs.Reports.{report as checkReport}
 use Rattle.card.proofs.Callers.{GoodCard, good}
@@ -25,7 +26,7 @@ enum-known-k c = search needs
 abbrev start : tie.After-known-told2 → tie.Start
 start c = c .before .before .before .before .before .before
 
-known : (c : tie.After-known-told2) → GoodCard (now (start c .args .card)) (c .before .k .given .0 .0) (c .before .k .given .0 .1 .0)
+known : (c : tie.After-known-told2) → GoodCard (cardOf (start c .args .edition) (now (start c .args .card))) (c .before .k .given .0 .0) (c .before .k .given .0 .1 .0)
 known c = good _ _ _ (ap checkReport (sym (c .before .k .given .1)) ∙ c .before .before .before .check .ensures)
 
 add-if1 : tie.Need-add-if1
@@ -35,7 +36,7 @@ returns : tie.Need-returns
 returns c = let g = known (c .before) in (outside-report _ _ _ _ g (c .if1 .taken) _, outside-slice _ _ _ _ g (c .if1 .taken) _)
 
 columns-requires : tie.Need-columns-requires
-columns-requires c κs = known (c .before) .long
+columns-requires c κs = known (c .before) .whole
 
 list-columns-requires : tie.Need-list-columns-requires
 list-columns-requires c κs =
@@ -59,7 +60,7 @@ returns-3 c =
     let s = l .before in
     let g = known s in
     let a = start s .args in
-    let e : report (v .result) ≡ equationsReport (now (a .card)) (a .disk) (length (now (a .out))) =
+    let e : report (v .result) ≡ equationsReport (cardOf (a .edition) (now (a .card))) (a .disk) (length (now (a .out))) =
     v .ensures .0 ∙ rw are (good-report _ _ _ _ g _ (l .if1 .left)) in
     (e, v .ensures .1 ∙ rw are (good-slice _ _ _ _ g _ _ e))
 

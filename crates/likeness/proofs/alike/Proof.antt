@@ -5,7 +5,7 @@ use Prim.Native.Nat.{ℕ}
 use native.Mathlib.Omega.{arith}
 use denote.Ref.{now}
 use lib.ListN.{length}
-use Rattle.flat.specs.Cards.{columnBytes, codeIn}
+use Rattle.flat.specs.Cards.{codeIn, Card, cardOf, columnBytes}
 use Rattle.flat.specs.Alike.{alike}
 use Rattle.flat.specs.Faults.{yesNo}
 use Rattle.card.specs.Reports.{report as checkReport}
@@ -28,13 +28,19 @@ enum-known-k c = search needs
 abbrev start : tie.After-known-told2 → tie.Start
 start c = c .before .before .before .before .before .before
 
+abbrev firstAt : tie.After-known-told2 → Card
+firstAt c = let a = start c .args in cardOf (a .a) (now (a .first))
+
+abbrev secondAt : tie.After-known-told2 → Card
+secondAt c = let a = start c .args in cardOf (a .b) (now (a .second))
+
 abbrev kAt : tie.After-known-told2 → ℕ
 kAt c = c .before .k .given .0 .0
 
 abbrev mAt : tie.After-known-told2 → ℕ
 mAt c = c .before .k .given .0 .1 .0
 
-known : (c : tie.After-known-told2) → GoodCard (now (start c .args .first)) (kAt c) (mAt c)
+known : (c : tie.After-known-told2) → GoodCard (firstAt c) (kAt c) (mAt c)
 known c = good _ _ _ (ap checkReport (sym (c .before .k .given .1)) ∙ c .before .before .before .check .ensures)
 
 check-requires-2 : tie.Need-check-requires-2
@@ -56,7 +62,7 @@ dataAt c = c .before .data .given .0 .0
 abbrev parityAt : tie.After-known-told4 → ℕ
 parityAt c = c .before .data .given .0 .1 .0
 
-known2 : (c : tie.After-known-told4) → GoodCard (now (start (prior c) .args .second)) (dataAt c) (parityAt c)
+known2 : (c : tie.After-known-told4) → GoodCard (secondAt (prior c)) (dataAt c) (parityAt c)
 known2 c = good _ _ _ (ap checkReport (sym (c .before .data .given .1)) ∙ c .before .before .before .check2 .ensures)
 
 returns : tie.Need-returns
@@ -73,10 +79,10 @@ returns-2 c =
     (parity-differs _ _ _ _ (known (prior b)) _ _ (known2 b) (omega arith) (λ e. omega (arith, e, c .if2 .taken)))
 
 columns-requires : tie.Need-columns-requires
-columns-requires c κs = known (prior (c .before .before)) .long
+columns-requires c κs = known (prior (c .before .before)) .whole
 
 columns-requires-2 : tie.Need-columns-requires-2
-columns-requires-2 c κs = known2 (c .before .before .before) .long
+columns-requires-2 c κs = known2 (c .before .before .before) .whole
 
 -- the second card has as many columns as the first
 rearranged-requires : tie.Need-rearranged-requires
@@ -94,8 +100,8 @@ decided : (c : tie.After-rearranged)
     → let b = both c .before .before in
     let p = prior b in
     c .rearranged .result
-    ≡ alike (codeIn (kAt p) (mAt p) (columnBytes (now (start p .args .first))))
-    (codeIn (dataAt b) (parityAt b) (columnBytes (now (start p .args .second))))
+    ≡ alike (codeIn (kAt p) (mAt p) (columnBytes (firstAt p)))
+    (codeIn (dataAt b) (parityAt b) (columnBytes (secondAt p)))
 decided c =
     let b = both c .before .before in
     columns-decide _ _ _ _ (known (prior b)) _ _ (known2 b) (omega (arith, both c .before .if1 .left)) (omega (arith, both c .if2 .left)) _ _

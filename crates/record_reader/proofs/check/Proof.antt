@@ -11,6 +11,7 @@ use denote.Ref.{now}
 use lib.ListN.{length}
 use Rattle.record_format.specs.Records.{bodyIn, lengthIn, entryCountIn, markOk, entriesOk}
 use Rattle.flat.specs.Strips.{lengthOk}
+use Rattle.flat.specs.Cards.{editionOne}
 use Rattle.flat.specs.Faults.{cardReport}
 use Rattle.card.specs.Reports.{report as checkReport}
 use Rattle.card.proofs.Callers.{GoodCard, good}
@@ -140,11 +141,11 @@ abbrev listing : tie.After-check → tie.Else4
 listing c = c .before .before .before .before .before
 
 -- the check was of the card's body
-checked : (c : tie.After-check) → checkReport (c .check .result) ≡ cardReport (bodyIn (file (first (listing c))) 0)
+checked : (c : tie.After-check) → checkReport (c .check .result) ≡ cardReport (editionOne (bodyIn (file (first (listing c))) 0))
 checked c =
-    c .check .ensures ∙ ap cardReport (card-part _ _ _ (c .before .before .before .number-42 .ensures .0) (c .before .before .number-43 .ensures .0))
+    c .check .ensures ∙ ap (λ (bs : List ℕ). cardReport (editionOne bs)) (card-part _ _ _ (c .before .before .before .number-42 .ensures .0) (c .before .before .number-43 .ensures .0))
 
-known : (c : tie.After-known-told2) → GoodCard (bodyIn (file (first (listing (c .before .before .before)))) 0) (c .before .k .given .0 .0) (c .before .k .given .0 .1 .0)
+known : (c : tie.After-known-told2) → GoodCard (editionOne (bodyIn (file (first (listing (c .before .before .before)))) 0)) (c .before .k .given .0 .0) (c .before .k .given .0 .1 .0)
 known c = good _ _ _ (ap checkReport (sym (c .before .k .given .1)) ∙ checked (c .before .before .before))
 
 -- the number of entries that was read

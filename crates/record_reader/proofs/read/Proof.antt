@@ -83,7 +83,7 @@ returns-2 c =
     let r = c .before in
     let s = r .before .before in
     let g = known (s .before) in
-    (found (s .before), columns-good _ _ _ _ _ g _ _ (card-lent _ _ _ _ _ g _ (s .strips-at .ensures .0)) (r .read .ensures .1))
+    (found (s .before), columns-good _ _ _ _ _ g _ _ (card-lent _ _ _ _ _ g _ (s .strips-at .ensures .0)) (r .read .ensures .1 .0))
 
 pub read-spec : {M : Type 1} → statement M
 read-spec =

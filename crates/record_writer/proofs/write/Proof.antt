@@ -4,8 +4,9 @@ use mathlib.Core.Path.{_≡_, sym, ap, _∙_}
 use denote.Ref.{now}
 use lib.ListN.{length}
 use Rattle.record_format.specs.Faults.{recordWriteReport}
+use Rattle.flat.specs.Cards.{editionOne}
 use Rattle.card.specs.Reports.{report as checkReport}
-use Rattle.card.proofs.Callers.{GoodCard, good}
+use Rattle.card.proofs.Callers.{GoodCard, good, one-length}
 use Rattle.record_writer.specs.Reports.{report}
 use Rattle.record_writer.proofs.WriterAnswers.{good-report, good-output, bad-report, bad-output}
 use borrow.Author.Needs.{needs}
@@ -25,11 +26,11 @@ enum-known-k c = search needs
 abbrev start : tie.After-known-told2 → tie.Start
 start c = c .before .before .before .before .before .before .before
 
-known : (c : tie.After-known-told2) → GoodCard (now (start c .args .card)) (c .before .k .given .0 .0) (c .before .k .given .0 .1 .0)
+known : (c : tie.After-known-told2) → GoodCard (editionOne (now (start c .args .card))) (c .before .k .given .0 .0) (c .before .k .given .0 .1 .0)
 known c = good _ _ _ (ap checkReport (sym (c .before .k .given .1)) ∙ c .before .before .before .check .ensures)
 
 write-good-requires : tie.Need-write-good-requires
-write-good-requires c κs = let g = known (c .before) in (g .columns .0, g .columns .1, g .columns .3, g .size)
+write-good-requires c κs = let g = known (c .before) in (g .columns .0, g .columns .1, g .columns .3, one-length _ _ _ g)
 
 returns : tie.Need-returns
 returns c =

@@ -8,6 +8,7 @@ use borrow.Author.Needs.{needs}
 use denote.Ref.{now}
 use lib.ListN.{length, take}
 use lib.Seq.{length-take-le}
+use Rattle.flat.specs.Cards.{editionOne}
 use Rattle.flat.specs.Faults.{accepted, erasuresReport}
 use Rattle.erasures.specs.Reports.{report as listedReport}
 use Rattle.text.specs.Text.{listingText, refusedText}
@@ -45,10 +46,10 @@ countAt c = c .before .answer .given .0 .0
 abbrev mAt : tie.After-known-told → ℕ
 mAt c = start (past c) .args .m
 
-told : (c : tie.After-known-told) → accepted (countAt c ∷ []) ≡ erasuresReport (cardAt (past c)) (length (sliceAt (past c)))
+told : (c : tie.After-known-told) → accepted (countAt c ∷ []) ≡ erasuresReport (editionOne (cardAt (past c))) (length (sliceAt (past c)))
 told c = ap listedReport (sym (c .before .answer .given .1)) ∙ listed (past c) .list .ensures .0
 
-roomy : (c : tie.After-known-told) → countAt c ≤ length (listed (past c) .list .last .1 .0)
+roomy : (c : tie.After-known-told) → countAt c ≤ length (listed (past c) .list .last .1 .1 .0)
 roomy c = room _ _ _ (start (past c) .pre) (sliceAt (past c)) (countAt c) (told c) _ (listed (past c) .list .ensures .1 .1)
 
 places : (c : tie.After-known-told) → mAt c + 1 ≤ length (listed (past c) .list .result .vector)
@@ -76,7 +77,7 @@ listing-requires c κs =
     let d = c .before .before .before in
     let l = listed (past d) .list in
     let ok = start (past d) .pre in (
-      omega (arith, length-take-le (countAt d) (l .last .1 .0) (roomy d), few _ _ _ ok (sliceAt (past d)) (countAt d) (told d)),
+      omega (arith, length-take-le (countAt d) (l .last .1 .1 .0) (roomy d), few _ _ _ ok (sliceAt (past d)) (countAt d) (told d)),
       omega (arith, length-take-le (mAt d + 1) (l .result .vector) (places d), counts _ _ _ ok),
     )
 
@@ -110,7 +111,7 @@ returns c =
     let ok = start v .pre in
     let es = ap (take (countAt d)) (l .ensures .1 .1) ∙ entries-are _ _ _ ok (sliceAt v) (countAt d) (told d) in
     let vs = vector-is _ _ _ ok (sliceAt v) (countAt d) (told d) (l .result .vector) (l .ensures .1 .0) in
-    let e : printed (cardAt v) (length (sliceAt v)) ≡ listingText (start v .args .k) (mAt d) (take (countAt d) (l .last .1 .0)) (take (mAt d + 1) (l .result .vector)) =
+    let e : printed (cardAt v) (length (sliceAt v)) ≡ listingText (start v .args .k) (mAt d) (take (countAt d) (l .last .1 .1 .0)) (take (mAt d + 1) (l .result .vector)) =
     printed-listing _ _ _ ok (sliceAt v) (countAt d) (told d) ∙ sym (ap₂ (λ (x y : List ℕ). listingText (start v .args .k) (mAt d) x y) es vs) in
     rw e (r .listing .ensures .0, (r .listing .ensures .1, l .ensures .1 .1))
 

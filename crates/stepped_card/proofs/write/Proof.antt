@@ -32,6 +32,9 @@ array-share-prefix-all c = prefix-fits _ _ _ _ (c .columns .ensures)
 slice-aggregate-write : tie.Need-slice-aggregate-write
 slice-aggregate-write c = length-columns _ _ _ _ (c .before .columns .ensures)
 
+slice-aggregate-write-2 : tie.Need-slice-aggregate-write-2
+slice-aggregate-write-2 c = search needs
+
 write-requires : tie.Need-write-requires
 write-requires c κs = search needs
 
@@ -55,8 +58,8 @@ same-length c = search needs
 
 returns : tie.Need-returns
 returns c =
-    let e = c .before .before .before .before .before .before in
-    (e .before .before .check .ensures, c .before .before .write .ensures .1 ∙ buffer-done _ _ _ _ (c .before .before .before .before .before .columns .ensures) _ (done e))
+    let e = c .before .before .before .before .before .before .before in
+    (e .before .before .check .ensures, c .before .before .write .ensures .1 ∙ buffer-done _ _ _ _ (c .before .before .before .before .before .before .columns .ensures) _ (done e))
 
 returns-2 : tie.Need-returns-2
 returns-2 c =
@@ -92,6 +95,7 @@ write-spec =
     columns-requires
     array-share-prefix-all
     slice-aggregate-write
+    slice-aggregate-write-2
     write-requires
     enum-told-2
     enum-told-3
