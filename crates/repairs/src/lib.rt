@@ -25,7 +25,7 @@ pub fn undetermined(rows: Basis, lost: u32) -> u32
 }
 
 // The first row that holds disk d, and the empty set where there is none.
-fn holder(basis: Basis, d: usize) -> u32
+pub fn holder(basis: Basis, d: usize) -> u32
     requires { ⌜ (basis .count ≤ 16) × (d < 32) ⌝ }
     ensures { λ r. ⌜ r ≡ holder d (take (basis .count) (basis .rows)) ⌝ }
 {

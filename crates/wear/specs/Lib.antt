@@ -1,0 +1,3 @@
+pub mod Wear
+pub mod Theorems
+pub mod Impostors
