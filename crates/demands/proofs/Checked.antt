@@ -16,19 +16,18 @@ use Rattle.gf2.proofs.Tests.{if-false, ltb-in}
 use Rattle.gf2.proofs.Bits.{no-disk}
 use Rattle.gf2.proofs.Subsets.{⊆-zero}
 use Rattle.flat.specs.Lists.{Bytes}
-use Rattle.flat.specs.Cards.{Code, codeOf, disks, setOk}
+use Rattle.flat.specs.Cards.{Code, Card, codeOf, disks, setOk}
 use Rattle.flat.specs.Strips.{lengthOk, byteOf, given, encoded}
 use Rattle.flat.specs.Erasures.{fatal}
 use Rattle.flat.specs.Rebuilding.{Agreeing, restored, agreeing}
 use Rattle.flat.specs.Faults.{Report, accepted, refused, cardReport, rebuildReport, rebuildStripe}
 use Rattle.flat.specs.Spans.{codeword}
 use Rattle.flat.proofs.Reports.{unless-either}
-use Rattle.flat.proofs.Lists.{length-tabulate, getD-tabulate}
+use Rattle.flat.proofs.Lists.{length-tabulate, getD-tabulate, bytes-part}
 use Rattle.flat.proofs.Words.{holds-data, holds-cong, codeword-nonzero}
 use Rattle.flat.proofs.Fatal.{fatal-out}
 use Rattle.flat.proofs.Positions.{places, at-place, byte-take, given-byte}
 use Rattle.flat.proofs.Agreement.{Agree, agrees-in, agrees-out}
-use Rattle.record_format.proofs.Numbers.{bytes-part}
 use Rattle.demands.specs.Demand3.{RightRebuild}
 use Rattle.demands.specs.Checked.{NothingLost}
 use Rattle.demands.proofs.Demand3.{right-rebuild}
@@ -39,7 +38,7 @@ none-fatal C t =
     let r = fatal-out C 0 t in
     codeword-nonzero C (r .0) (r .1) (r .2) (⊆-zero (codeword C (r .0)) (r .3))
 
-module _ (card : List ℕ) (L : ℕ) (stripe : List ℕ) (whole : length stripe ≡ disks (codeOf card) * L) where
+module _ (card : Card) (L : ℕ) (stripe : List ℕ) (whole : length stripe ≡ disks (codeOf card) * L) where
   abbrev C : Code
   C = codeOf card
 
@@ -82,7 +81,7 @@ module _ (card : List ℕ) (L : ℕ) (stripe : List ℕ) (whole : length stripe 
 differ : accepted (0 ∷ []) ≡ refused 12 [] → ⊥
 differ e = let z : _≡_ {A = ℕ} 0 12 = ap (λ (r : Report). r .number) e in omega arith
 
-module _ (card : List ℕ) (k m L : ℕ) (stripe : List ℕ) (ok : cardReport card ≡ accepted (k ∷ m ∷ [])) (len : T (lengthOk L))
+module _ (card : Card) (k m L : ℕ) (stripe : List ℕ) (ok : cardReport card ≡ accepted (k ∷ m ∷ [])) (len : T (lengthOk L))
     (whole : length stripe ≡ disks (codeOf card) * L) where
   rebuild : RightRebuild card 0 L stripe
   unfolding setOk

@@ -8,7 +8,7 @@ use native.Mathlib.Omega.{arith}
 use borrow.Author.Tests.{eqb-true, not-false}
 use lib.Dec.{eqb}
 use lib.ListN.{length}
-use Rattle.flat.specs.Cards.{Code, codeOf, disks}
+use Rattle.flat.specs.Cards.{Code, Card, codeOf, disks}
 use Rattle.flat.specs.Strips.{lengthOk, byteOf, encoded}
 use Rattle.flat.specs.Faults.{accepted, encodeTests, encodeReport, encodeStripe}
 use Rattle.flat.proofs.Reports.{passed, with-out, unless-accepted}
@@ -18,7 +18,7 @@ use Rattle.flat.proofs.Theorems.{card-reads-back, card-writes-back}
 use Rattle.record_format.proofs.Theorems.{records-read-back, records-write-back}
 use Rattle.demands.specs.Demand2.{Demand2, RightEncoding}
 
-module _ (card : List ℕ) (L : ℕ) (stripe : List ℕ) (ok : encodeReport card L (length stripe) ≡ accepted []) where
+module _ (card : Card) (L : ℕ) (stripe : List ℕ) (ok : encodeReport card L (length stripe) ≡ accepted []) where
   abbrev C : Code
   C = codeOf card
 

@@ -12,7 +12,7 @@ use Rattle.gf2.specs.If.{if_then_else_}
 use Rattle.gf2.specs.Sets.{size, _⊆_}
 use Rattle.gf2.proofs.Tests.{if-true, if-false}
 use Rattle.flat.specs.Lists.{member}
-use Rattle.flat.specs.Cards.{Code, codeOf, disks, setOk}
+use Rattle.flat.specs.Cards.{Code, Card, codeOf, disks, setOk}
 use Rattle.flat.specs.Strips.{lengthOk, byteOf}
 use Rattle.flat.specs.Erasures.{fatal, undeterminedSet, minimalErasure, erasures}
 use Rattle.flat.specs.Equations.{minimalEquation, equations, Precedes}
@@ -30,7 +30,7 @@ use Rattle.flat.proofs.Rebuilds.{restored-agreed, restored-others, some-accepte
 
 -- ---- the two lists
 
-module _ (card : List ℕ) (k m : ℕ) (ok : cardReport card ≡ accepted (k ∷ m ∷ [])) where
+module _ (card : Card) (k m : ℕ) (ok : cardReport card ≡ accepted (k ∷ m ∷ [])) where
   abbrev C : Code
   C = codeOf card
 
@@ -80,7 +80,7 @@ eleven false S (c ∷ cs) e = absurd (let z : _≡_ {A = ℕ} 0 11 = ap (λ (r :
 
 -- ---- all of it
 
-module _ (card : List ℕ) (k m S L : ℕ) (stripe : List ℕ) (ok : cardReport card ≡ accepted (k ∷ m ∷ [])) (set : T (setOk (codeOf card) S))
+module _ (card : Card) (k m S L : ℕ) (stripe : List ℕ) (ok : cardReport card ≡ accepted (k ∷ m ∷ [])) (set : T (setOk (codeOf card) S))
     (len : T (lengthOk L)) (whole : length stripe ≡ disks (codeOf card) * L) where
   report : rebuildReport card L S stripe
       ≡ (if fatal (codeOf card) S then refused 11 [] else survivorsReport S (agreeing (codeOf card) L S stripe))

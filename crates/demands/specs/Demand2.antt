@@ -7,14 +7,14 @@ use mathlib.Core.List.{List, []}
 use Prim.Native.Nat.{ℕ, _+_, _<_}
 use lib.ListN.{length}
 use Rattle.gf2.specs.Sets.{over}
-use Rattle.flat.specs.Cards.{codeOf, column}
+use Rattle.flat.specs.Cards.{Card, codeOf, column}
 use Rattle.flat.specs.Strips.{byteOf}
 use Rattle.flat.specs.Faults.{accepted, encodeReport, encodeStripe}
 use Rattle.flat.specs.Theorems.{CardReadsBack, CardWritesBack}
 use Rattle.record_format.specs.Theorems.{RecordReadsBack, RecordWritesBack}
 
 -- what an accepted call of the encoder leaves in the stripe
-pub record RightEncoding (card : List ℕ) (L : ℕ) (stripe : List ℕ) : Type 0 where
+pub record RightEncoding (card : Card) (L : ℕ) (stripe : List ℕ) : Type 0 where
   -- byte t of parity disk k + j is the XOR of byte t of the data disks that column j names
   pub parity : (j t : ℕ) → j < codeOf card .m → t < L
       → byteOf L (encodeStripe card L stripe) t (codeOf card .k + j) ≡ over (codeOf card .k) (column (codeOf card) j) (byteOf L stripe t)
@@ -24,7 +24,7 @@ pub record RightEncoding (card : List ℕ) (L : ℕ) (stripe : List ℕ) : Type 
   pub long : length (encodeStripe card L stripe) ≡ length stripe
 
 pub record Demand2 : Type 0 where
-  pub encoder : (card : List ℕ) (L : ℕ) (stripe : List ℕ) → encodeReport card L (length stripe) ≡ accepted [] → RightEncoding card L stripe
+  pub encoder : (card : Card) (L : ℕ) (stripe : List ℕ) → encodeReport card L (length stripe) ≡ accepted [] → RightEncoding card L stripe
   -- what is read back after writing is what was written
   pub cards-back : CardReadsBack
   pub records-back : RecordReadsBack

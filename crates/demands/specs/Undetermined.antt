@@ -9,7 +9,7 @@ use lib.Dec.{T}
 use lib.ListN.{length}
 use Rattle.gf2.specs.Sets.{has, _⊆_}
 use Rattle.flat.specs.Lists.{member}
-use Rattle.flat.specs.Cards.{Code, codeOf, disks, setOk}
+use Rattle.flat.specs.Cards.{Code, Card, codeOf, disks, setOk}
 use Rattle.flat.specs.Strips.{lengthOk}
 use Rattle.flat.specs.Erasures.{holdsBit, survivors, fatal, undeterminedSet, erasures}
 use Rattle.flat.specs.Equations.{equations}
@@ -28,7 +28,7 @@ pub record Differing (C : Code) (S d : ℕ) : Type 0 where
   pub differ : holdsBit C x d ≢ holdsBit C y d
 
 -- U is the set of undetermined disks
-pub record AgreesWith (card : List ℕ) (S L : ℕ) (stripe slice : List ℕ) (slices : ℕ → List ℕ) (U : ℕ) : Type 0 where
+pub record AgreesWith (card : Card) (S L : ℕ) (stripe slice : List ℕ) (slices : ℕ → List ℕ) (U : ℕ) : Type 0 where
   -- the verdict call gives it: lost disks alone, those on which two data words differ that are alike on the survivors
   pub verdict : verdictReport card S ≡ accepted (U ∷ [])
   pub lost : T (U ⊆ S)
@@ -47,7 +47,7 @@ pub record AgreesWith (card : List ℕ) (S L : ℕ) (stripe slice : List ℕ) (s
 -- For every accepted card, set of its disks, L, stripe, and slices at least as long as the counts.
 abbrev pub OneSet : Type 0
 OneSet =
-    (card : List ℕ) (k m S L : ℕ) (stripe slice : List ℕ) (slices : ℕ → List ℕ)
+    (card : Card) (k m S L : ℕ) (stripe slice : List ℕ) (slices : ℕ → List ℕ)
     → cardReport card ≡ accepted (k ∷ m ∷ []) → T (setOk (codeOf card) S) → T (lengthOk L)
     → length stripe ≡ disks (codeOf card) * L
     → length (erasures (codeOf card)) ≤ length slice

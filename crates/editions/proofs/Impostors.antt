@@ -1,0 +1,29 @@
+-- What tells the definitions from their impostors, computed.
+-- Assumes nothing.
+use mathlib.Core.Path.{refl}
+use Rattle.flat.specs.Faults.{cardReport, cardWears, cardWriteReport, cardWriteBuffer}
+use Rattle.editions.specs.Converting.{upBuffer, downReport, downBuffer}
+use Rattle.editions.specs.Impostors.{ReadsInOrder, WritesInOrder, ConvertsInOrder}
+
+pub reads-in-order : ReadsInOrder
+unfolding cardReport cardWears
+reads-in-order =
+    record {
+      short = refl;
+      other-first-byte = refl;
+      data-before-length = refl;
+      no-wears = refl;
+      column-before-wear = refl;
+      zero-wear = refl;
+      wears-in-order = refl;
+      ones = refl;
+      named-wrong = refl;
+    }
+
+pub writes-in-order : WritesInOrder
+unfolding cardWriteReport cardWriteBuffer
+writes-in-order = record { wears-for-first = refl; too-few-wears = refl; column-before-wear = refl; wear-before-buffer = refl; written = refl }
+
+pub converts-in-order : ConvertsInOrder
+unfolding upBuffer downReport downBuffer
+converts-in-order = record { up = refl; down = refl; lossy-last = refl; lossy = refl }

@@ -1,0 +1,4 @@
+pub mod Converted
+pub mod Apart
+pub mod Theorems
+pub mod Impostors
