@@ -4,5 +4,7 @@ pub mod RecordValues
 pub mod TrayValues
 pub mod UpdateValues
 pub mod PartialValues
+pub mod EditionValues
+pub mod WearValues
 pub mod SteppedValues
 pub mod Theorems

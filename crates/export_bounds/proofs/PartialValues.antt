@@ -5,7 +5,7 @@ use Prim.Native.Nat.{ℕ, _*_}
 use native.Mathlib.Omega.{arith}
 use lib.Dec.{eqb}
 use lib.ListN.{length}
-use Rattle.flat.specs.Cards.{codeOf, disks, setOk}
+use Rattle.flat.specs.Cards.{Card, codeOf, disks, setOk}
 use Rattle.flat.specs.Strips.{lengthOk}
 use Rattle.flat.specs.Erasures.{undeterminedSet}
 use Rattle.flat.specs.Rebuilding.{agreeing}
@@ -19,7 +19,7 @@ unfolding foundReport
 found-fits U [] h = plain 12 (omega arith)
 found-fits U (c ∷ cs) h = h
 
-pub partial-fits : (card : List ℕ) (L S : ℕ) (stripe : List ℕ) → Fits (partialReport card L S stripe)
+pub partial-fits : (card : Card) (L S : ℕ) (stripe : List ℕ) → Fits (partialReport card L S stripe)
 unfolding partialReport partialTests stripeTests
 partial-fits card L S stripe =
     let C = codeOf card in

@@ -13,6 +13,8 @@ use Rattle.export_bounds.proofs.RecordValues.{record-write-fits, record
 use Rattle.export_bounds.proofs.TrayValues.{tray-fits}
 use Rattle.export_bounds.proofs.UpdateValues.{update-fits}
 use Rattle.export_bounds.proofs.PartialValues.{partial-fits}
+use Rattle.export_bounds.proofs.EditionValues.{up-fits, down-fits}
+use Rattle.export_bounds.proofs.WearValues.{least-wear-fits}
 use Rattle.export_bounds.proofs.SteppedValues.{stepped-fits}
 
 pub coded-decodes : CodedDecodes
@@ -31,11 +33,14 @@ pub reports-fit : ReportsFit
 reports-fit = record {
   card-check = card-fits;
   card-writer = card-write-fits;
+  up = up-fits;
+  down = down-fits;
   encoder = encode-fits;
   verdict = verdict-fits;
   lister = erasures-fits;
   likeness = alike-fits;
   equation-call = equations-fits;
+  least-wear = least-wear-fits;
   rebuilder = rebuild-fits;
   record-writer = record-write-fits;
   record-reader = record-fits;

@@ -10,7 +10,7 @@ use lib.ListN.{length, getD}
 use Rattle.gf2.specs.Sets.{size}
 use Rattle.gf2.proofs.Tests.{true-T, ltb-out}
 use Rattle.gf2.proofs.Sizes.{size-lt}
-use Rattle.flat.specs.Cards.{Code, codeOf, disks, setOk}
+use Rattle.flat.specs.Cards.{Code, Card, codeOf, disks, setOk}
 use Rattle.flat.specs.Strips.{lengthOk}
 use Rattle.flat.proofs.Quantifiers.{every-out}
 use Rattle.peeling.specs.Trays.{trayPeeled, total}
@@ -32,7 +32,7 @@ steps-few C L budget Ss tray few ec es =
     let b = tray-count C L budget Ss tray in
     omega arith
 
-pub tray-fits : (card : List ℕ) (L budget : ℕ) (Ss tray : List ℕ) → Fits (trayReport card L budget Ss tray)
+pub tray-fits : (card : Card) (L budget : ℕ) (Ss tray : List ℕ) → Fits (trayReport card L budget Ss tray)
 unfolding trayReport trayTests disks
 tray-fits card L budget Ss tray =
     let C = codeOf card in

@@ -1,11 +1,11 @@
 -- The update's report fits into one number: the parities that name a disk are at most all.
 -- Assumes nothing.
-use mathlib.Core.List.{List, []}
+use mathlib.Core.List.{[]}
 use Prim.Native.Nat.{ℕ, _+_, _*_}
 use native.Mathlib.Omega.{arith}
 use lib.Dec.{ltb, eqb}
 use Rattle.gf2.specs.Sets.{has}
-use Rattle.flat.specs.Cards.{codeOf, disks, column}
+use Rattle.flat.specs.Cards.{Card, codeOf, disks, column}
 use Rattle.flat.specs.Strips.{lengthOk}
 use Rattle.flat.proofs.Counts.{count-le}
 use Rattle.updating.specs.Updating.{naming}
@@ -13,7 +13,7 @@ use Rattle.updating.specs.Faults.{updateTests, updateReport}
 use Rattle.export_bounds.specs.Coded.{Fits}
 use Rattle.export_bounds.proofs.Values.{named, test, with-fits}
 
-pub update-fits : (card : List ℕ) (L n d p : ℕ) → Fits (updateReport card L n d p)
+pub update-fits : (card : Card) (L n d p : ℕ) → Fits (updateReport card L n d p)
 unfolding updateReport updateTests naming
 update-fits card L n d p =
     let C = codeOf card in

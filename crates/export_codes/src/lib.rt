@@ -18,12 +18,17 @@ ghost use Rattle.partial_rebuilder.specs.Reports.{report as partlyRebuiltReport
 ghost use Rattle.tray.specs.Reports.{report as repairedReport};
 ghost use Rattle.updater.specs.Reports.{report as updatedReport};
 ghost use Rattle.stepped_card.specs.Reports.{report as steppedWrittenReport};
-ghost use Rattle.export_bounds.specs.Coded.{coded, Fits};
+ghost use Rattle.converter.specs.Reports.{report as convertedReport};
+ghost use Rattle.least_wear.specs.Reports.{report as leastWearReport};
+ghost use Rattle.export_bounds.specs.Coded.{coded, named, Fits};
 use card::CardFault;
+use card::Edition;
 use card_writer::CardWritten;
+use converter::Converted;
 use encoder::Encoded;
 use equations::Told;
 use erasures::Listed;
+use least_wear::LeastWear;
 use likeness::Likeness;
 use partial_rebuilder::PartlyRebuilt;
 use rebuilder::Rebuilt;
@@ -37,6 +42,16 @@ mod records;
 pub use records::record_fault_code;
 pub use records::record_written_code;
 pub use records::there_code;
+
+// The edition that the caller names.
+pub fn edition(second: bool) -> Edition
+    ensures { λ r. ⌜ r ≡ named second ⌝ }
+{
+    if second {
+        return Edition::Second;
+    }
+    Edition::First
+}
 
 // A report's number and its value packed into one.
 pub fn packed(number: u64, value: usize) -> u64
@@ -66,6 +81,19 @@ pub fn written_code(written: CardWritten) -> u64
     }
 }
 
+// The converter's answer.
+pub fn converted_code(converted: Converted) -> u64
+    requires { ⌜ Fits (convertedReport converted) ⌝ }
+    ensures { λ r. ⌜ r ≡ coded (convertedReport converted) ⌝ }
+{
+    match converted {
+        Converted::Done => 0,
+        Converted::Card(fault) => fault_code(fault),
+        Converted::Buffer => 7,
+        Converted::Lossy => 24,
+    }
+}
+
 // The stepped card's answer.
 pub fn stepped_code(written: SteppedWritten) -> u64
     ensures { λ r. ⌜ r ≡ coded (steppedWrittenReport written) ⌝ }
@@ -77,6 +105,20 @@ pub fn stepped_code(written: SteppedWritten) -> u64
         SteppedWritten::Distance => 20,
         SteppedWritten::Bounds => 21,
         SteppedWritten::Buffer => 7,
+    }
+}
+
+// The least-wear call's answer.
+pub fn least_wear_code(least: LeastWear) -> u64
+    requires { ⌜ Fits (leastWearReport least) ⌝ }
+    ensures { λ r. ⌜ r ≡ coded (leastWearReport least) ⌝ }
+{
+    match least {
+        LeastWear::Equation(set) => packed(0, set as usize),
+        LeastWear::Card(fault) => fault_code(fault),
+        LeastWear::OutsideSet => 8,
+        LeastWear::NoDisk => 9,
+        LeastWear::NoneSurvives => 11,
     }
 }
 

@@ -1,10 +1,13 @@
 -- `bridgecrumb::bridgecrumb_rebuild` meets its contract. Assumes nothing.
-use mathlib.Core.Path.{ap, _∙_}
+use mathlib.Core.Path.{sym, ap, _∙_}
 use borrow.Author.Needs.{needs}
 use Rattle.export_bounds.specs.Coded.{coded}
 use Rattle.export_bounds.proofs.Values.{rebuild-fits}
 use Rattle.bridgecrumb.proofs.bridgecrumb_rebuild.Statement.{statement}
 use Rattle.bridgecrumb.proofs.bridgecrumb_rebuild.Tie as tie
+
+edition-requires : tie.Need-edition-requires
+edition-requires c κs = search needs
 
 rebuild-requires : tie.Need-rebuild-requires
 rebuild-requires c κs = search needs
@@ -18,7 +21,7 @@ same-length c = search needs
 returns : tie.Need-returns
 returns c =
     let l = c .before .before .before .rebuild in
-    (c .rebuilt-code .ensures ∙ ap coded (l .ensures .0), l .ensures .1)
+    rw (sym (c .before .before .before .before .before .edition .ensures)) (c .rebuilt-code .ensures ∙ ap coded (l .ensures .0), l .ensures .1)
 
 pub bridgecrumb-rebuild-spec : {M : Type 1} → statement M
-bridgecrumb-rebuild-spec = tie.close (tie.spec rebuild-requires rebuilt-code-requires same-length returns)
+bridgecrumb-rebuild-spec = tie.close (tie.spec edition-requires rebuild-requires rebuilt-code-requires same-length returns)
