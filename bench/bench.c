@@ -4,6 +4,7 @@
 int main(void)
 {
     bench_lists();
+    bench_wear();
     bench_stripes();
     bench_partials();
     bench_trays();

@@ -1,4 +1,4 @@
-/* What the benchmarks share, and the eight that bench.c runs one after the other. */
+/* What the benchmarks share, and the nine that bench.c runs one after the other. */
 #ifndef BENCH_H
 #define BENCH_H
 
@@ -7,6 +7,7 @@
 #include <time.h>
 
 void bench_lists(void);
+void bench_wear(void);
 void bench_stripes(void);
 void bench_partials(void);
 void bench_trays(void);

@@ -80,7 +80,7 @@ static double compare_lists(const char *name, const uint8_t *card)
         double start = now();
         count = peer_list(card, peers, peers_vector);
         double middle = now();
-        uint64_t answer = bridgecrumb_list(card, length, engines, ENTRIES, engines_vector);
+        uint64_t answer = bridgecrumb_list(false, card, length, engines, ENTRIES, engines_vector);
         keep_least(&least, start, middle, now());
         same_lists(answer, count);
         for (int i = 0; i < 17; i++)
@@ -100,7 +100,7 @@ static double compare_equations(const char *name, const uint8_t *card, int disk)
         double start = now();
         count = peer_equations(card, disk, peers);
         double middle = now();
-        uint64_t answer = bridgecrumb_equations(card, length, disk, engines, ENTRIES);
+        uint64_t answer = bridgecrumb_equations(false, card, length, disk, engines, ENTRIES);
         keep_least(&least, start, middle, now());
         same_lists(answer, count);
     }
@@ -124,7 +124,7 @@ static double compare_verdicts(const char *name, const uint8_t *card)
             peers_say[i] = peer_verdict(card, sets[i]);
         double middle = now();
         for (int i = 0; i < SETS; i++)
-            engines_say[i] = bridgecrumb_verdict(card, length, sets[i]);
+            engines_say[i] = bridgecrumb_verdict(false, card, length, sets[i]);
         keep_least(&least, start, middle, now());
         fatal = 0;
         for (int i = 0; i < SETS; i++) {
@@ -142,10 +142,10 @@ static void check_answers(const uint8_t *card)
     size_t length = 2 + 2 * (size_t)card[1], vector[17];
     uint32_t out[1] = {7};
     memset(vector, 0x55, sizeof vector);
-    uint64_t full = bridgecrumb_list(card, length, engines, ENTRIES, (size_t[17]){0});
-    if (bridgecrumb_list(card, length, out, 1, vector) != 10 + 256 * BRIDGECRUMB_VALUE(full))
+    uint64_t full = bridgecrumb_list(false, card, length, engines, ENTRIES, (size_t[17]){0});
+    if (bridgecrumb_list(false, card, length, out, 1, vector) != 10 + 256 * BRIDGECRUMB_VALUE(full))
         stop("a short slice is not refused by 10");
-    if (bridgecrumb_list(card, length - 1, out, 1, vector) != 4)
+    if (bridgecrumb_list(false, card, length - 1, out, 1, vector) != 4)
         stop("a short card is not refused by 4");
     for (int i = 0; i < 17; i++)
         if (vector[i] != 0x5555555555555555)
@@ -155,13 +155,13 @@ static void check_answers(const uint8_t *card)
     uint8_t bad[34];
     memcpy(bad, card, length);
     put_column(bad, 3, 0);
-    if (bridgecrumb_list(bad, length, out, 1, vector) != 5 + 256 * 3 || bridgecrumb_verdict(bad, length, 0) != 5 + 256 * 3)
+    if (bridgecrumb_list(false, bad, length, out, 1, vector) != 5 + 256 * 3 || bridgecrumb_verdict(false, bad, length, 0) != 5 + 256 * 3)
         stop("an empty column is not named");
-    if (bridgecrumb_equations(card, length, card[0] + card[1], out, 1) != 9 || out[0] != 7)
+    if (bridgecrumb_equations(false, card, length, card[0] + card[1], out, 1) != 9 || out[0] != 7)
         stop("a disk that the code lacks is not refused by 9");
-    if (bridgecrumb_verdict(card, length, engines[0]) != 256 * (uint64_t)engines[0])
+    if (bridgecrumb_verdict(false, card, length, engines[0]) != 256 * (uint64_t)engines[0])
         stop("a disk of an entry is determined");
-    if (bridgecrumb_verdict(card, length, engines[0] & (engines[0] - 1)) != 0)
+    if (bridgecrumb_verdict(false, card, length, engines[0] & (engines[0] - 1)) != 0)
         stop("an entry without a disk is fatal");
 }
 
@@ -181,21 +181,28 @@ static size_t used_below(const uint8_t *frame)
 static void *call_list(void *used)
 {
     static size_t vector[17];
-    bridgecrumb_list(stack_card, 2 + 2 * (size_t)stack_card[1], engines, ENTRIES, vector);
+    bridgecrumb_list(false, stack_card, 2 + 2 * (size_t)stack_card[1], engines, ENTRIES, vector);
     *(size_t *)used = used_below(__builtin_frame_address(0));
     return NULL;
 }
 
 static void *call_equations(void *used)
 {
-    bridgecrumb_equations(stack_card, 2 + 2 * (size_t)stack_card[1], 0, engines, ENTRIES);
+    bridgecrumb_equations(false, stack_card, 2 + 2 * (size_t)stack_card[1], 0, engines, ENTRIES);
     *(size_t *)used = used_below(__builtin_frame_address(0));
     return NULL;
 }
 
 static void *call_verdict(void *used)
 {
-    bridgecrumb_verdict(stack_card, 2 + 2 * (size_t)stack_card[1], 0xffff);
+    bridgecrumb_verdict(false, stack_card, 2 + 2 * (size_t)stack_card[1], 0xffff);
+    *(size_t *)used = used_below(__builtin_frame_address(0));
+    return NULL;
+}
+
+static void *call_least_wear(void *used)
+{
+    bridgecrumb_least_wear(false, stack_card, 2 + 2 * (size_t)stack_card[1], 0, 0);
     *(size_t *)used = used_below(__builtin_frame_address(0));
     return NULL;
 }
@@ -247,7 +254,9 @@ void bench_lists(void)
     printf("the verdict call is at least %.2f times as fast as the peer, which checks no card\n", verdicts);
     check_answers(cards[0]);
     size_t list = stack_of(call_list, cards[0]), told = stack_of(call_equations, cards[0]), verdict = stack_of(call_verdict, cards[0]);
-    printf("stack: bridgecrumb_list %zu bytes, bridgecrumb_equations %zu bytes, bridgecrumb_verdict %zu bytes\n", list, told, verdict);
-    if (list >= STACK_LIMIT || told >= STACK_LIMIT)
+    size_t least = stack_of(call_least_wear, cards[0]);
+    printf("stack: bridgecrumb_list %zu bytes, bridgecrumb_equations %zu bytes, bridgecrumb_verdict %zu bytes, bridgecrumb_least_wear %zu bytes\n",
+           list, told, verdict, least);
+    if (list >= STACK_LIMIT || told >= STACK_LIMIT || least >= STACK_LIMIT)
         stop("a call uses 64 KiB of stack or more");
 }

@@ -72,12 +72,12 @@ typedef uint64_t (*contestant)(struct job *job);
 
 static uint64_t partial(struct job *job)
 {
-    return bridgecrumb_partial_rebuild(job->card, job->card_len, job->strip_len, job->lost, job->stripe, job->stripe_len);
+    return bridgecrumb_partial_rebuild(false, job->card, job->card_len, job->strip_len, job->lost, job->stripe, job->stripe_len);
 }
 
 static uint64_t rebuild(struct job *job)
 {
-    return bridgecrumb_rebuild(job->card, job->card_len, job->strip_len, job->lost, job->stripe, job->stripe_len);
+    return bridgecrumb_rebuild(false, job->card, job->card_len, job->strip_len, job->lost, job->stripe, job->stripe_len);
 }
 
 enum { ENGINE, PLAIN, REBUILD, CONTESTANTS };

@@ -48,7 +48,7 @@ static void coins(struct job *job, int k, int m)
             while ((column & (column - 1)) == 0);
             put_column(job->card, j, column);
         }
-    } while (bridgecrumb_verdict(job->card, job->card_len, 3) != 0);
+    } while (bridgecrumb_verdict(false, job->card, job->card_len, 3) != 0);
 }
 
 /* ---- the contestants */
@@ -57,13 +57,13 @@ typedef void (*contestant)(struct job *job);
 
 static void engine_encode(struct job *job)
 {
-    if (bridgecrumb_encode(job->card, job->card_len, job->strip_len, job->stripe, job->stripe_len) != 0)
+    if (bridgecrumb_encode(false, job->card, job->card_len, job->strip_len, job->stripe, job->stripe_len) != 0)
         stop("the encoder refuses");
 }
 
 static void engine_rebuild(struct job *job)
 {
-    if (BRIDGECRUMB_NUMBER(bridgecrumb_rebuild(job->card, job->card_len, job->strip_len, job->lost, job->stripe, job->stripe_len)) != 0)
+    if (BRIDGECRUMB_NUMBER(bridgecrumb_rebuild(false, job->card, job->card_len, job->strip_len, job->lost, job->stripe, job->stripe_len)) != 0)
         stop("the rebuilder refuses");
 }
 

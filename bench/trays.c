@@ -34,7 +34,7 @@ static void coins(struct job *job)
             columns[j] = below(1024);
             within |= columns[j];
         }
-    } while (within != 1023 || bridgecrumb_card_write(10, 4, columns, 4, job->card, job->card_len) != 0);
+    } while (within != 1023 || bridgecrumb_card_write(false, 10, 4, columns, 4, NULL, 0, job->card, job->card_len) != 0);
 }
 
 /* ---- the contestants */
@@ -50,7 +50,8 @@ typedef void (*contestant)(struct answer *answer);
 /* the budget is enough for every disk of the tray */
 static void quick_repair(struct answer *answer)
 {
-    uint64_t got = bridgecrumb_quick_repair(jobs->card, jobs->card_len, jobs->strip_len, lost, STRIPES, 32 * STRIPES, tray, tray_len, answer->left);
+    uint64_t got =
+        bridgecrumb_quick_repair(false, jobs->card, jobs->card_len, jobs->strip_len, lost, STRIPES, 32 * STRIPES, tray, tray_len, answer->left);
     if (BRIDGECRUMB_NUMBER(got) != 0)
         stop("quick repair refuses");
     answer->steps = BRIDGECRUMB_VALUE(got);
@@ -68,7 +69,7 @@ static void rebuild(struct answer *answer)
     answer->steps = 0;
     for (int s = 0; s < STRIPES; s++) {
         const struct job *job = &jobs[s];
-        uint64_t got = bridgecrumb_rebuild(job->card, job->card_len, job->strip_len, job->lost, job->stripe, job->stripe_len);
+        uint64_t got = bridgecrumb_rebuild(false, job->card, job->card_len, job->strip_len, job->lost, job->stripe, job->stripe_len);
         if (BRIDGECRUMB_NUMBER(got) != 0)
             stop("the rebuilder refuses");
         answer->steps += BRIDGECRUMB_VALUE(got);

@@ -41,7 +41,7 @@ typedef uint64_t (*contestant)(struct job *job, const uint8_t *new_strip);
 
 static uint64_t update(struct job *job, const uint8_t *new_strip)
 {
-    return bridgecrumb_update(job->card, job->card_len, job->strip_len, job->stripe, job->stripe_len, DISK, new_strip, job->strip_len);
+    return bridgecrumb_update(false, job->card, job->card_len, job->strip_len, job->stripe, job->stripe_len, DISK, new_strip, job->strip_len);
 }
 
 static uint64_t plain(struct job *job, const uint8_t *new_strip)
@@ -58,7 +58,7 @@ static uint64_t loops(struct job *job, const uint8_t *new_strip)
 static uint64_t encode(struct job *job, const uint8_t *new_strip)
 {
     (void)new_strip;
-    return bridgecrumb_encode(job->card, job->card_len, job->strip_len, job->stripe, job->stripe_len);
+    return bridgecrumb_encode(false, job->card, job->card_len, job->strip_len, job->stripe, job->stripe_len);
 }
 
 /* with the new strip, and the answer of an update */
@@ -124,7 +124,7 @@ static void check(int c, uint64_t answer)
 static void check_refusal(struct job *job, size_t disk, uint64_t answer)
 {
     size_t new_len = 15;
-    uint64_t got = bridgecrumb_update(job->card, job->card_len, job->strip_len, job->stripe, job->stripe_len, disk, new_strips[0], new_len);
+    uint64_t got = bridgecrumb_update(false, job->card, job->card_len, job->strip_len, job->stripe, job->stripe_len, disk, new_strips[0], new_len);
     if (got != answer || plain_update(job, disk, new_strips[0], new_len) != answer)
         stop("a refused update has another answer");
     check_stripe(ENGINE, &jobs[0], right[1]);

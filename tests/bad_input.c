@@ -6,34 +6,28 @@
 #include <stdlib.h>
 #include <string.h>
 
-#include "bridgecrumb.h"
+#include "bad_input.h"
 
 static const uint8_t c1[] = {4, 3, 7, 0, 11, 0, 13, 0}, c3[] = {2, 2, 1, 0, 2, 0}, c4[] = {1, 2, 1, 0, 1, 0}, c6[] = {2, 1, 1, 0};
-static const uint8_t c7[] = {0x11, 0x22, 0x44, 0x88, 0x77, 0xbb, 0xdd}; /* a stripe of C1 */
 static const uint8_t most[34] = {16, 16, 1, 0, 1, 0, 1, 0, 1, 0, 1, 0, 1, 0, 1, 0, 1,
                                  0,  1,  0, 1, 0, 1, 0, 1, 0, 1, 0, 1, 0, 1, 0, 1, 0}; /* 32 disks */
 static const uint8_t wrong[] = {17, 1, 1, 0, 2, 2, 1, 0, 4, 0}; /* a card of 17 data disks, one of no parity disk, one whose column 1 is wrong */
 static const uint16_t columns[] = {7, 11, 13, 1}, wrong_columns[] = {7, 16, 0};
-static uint8_t record[104]; /* of C1 with that stripe and disk 2 lost */
+static const uint8_t c7[] = {0x11, 0x22, 0x44, 0x88, 0x77, 0xbb, 0xdd}; /* a stripe of C1 */
+static uint8_t record[104];                                             /* of C1 with that stripe and disk 2 lost */
 
-/* everything that is lent to be written, and what it was before the call */
-struct lent {
-    uint8_t stripe[8], out[112];
-    uint32_t slice[16], sets[8];
-    size_t numbers[17];
-    uint16_t columns[16];
-};
-static struct lent lent, before;
+struct lent lent;
+static struct lent before; /* what it was before the call */
 static unsigned tried;
 
-static void begin(void)
+void begin(void)
 {
     memset(&lent, 0xa5, sizeof lent);
     memcpy(lent.stripe, c7, sizeof c7);
     before = lent;
 }
 
-static void compare(const char *call, uint64_t answer, unsigned number, uint64_t value)
+void compare(const char *call, uint64_t answer, unsigned number, uint64_t value)
 {
     tried++;
     if (answer == number + 256 * value && (number == 0 || memcmp(&lent, &before, sizeof lent) == 0))
@@ -43,30 +37,27 @@ static void compare(const char *call, uint64_t answer, unsigned number, uint64_t
     exit(1);
 }
 
-/* what the call answers: a number, and a value */
-#define TRY(number, value, call) (begin(), compare(#call, bridgecrumb_##call, number, value))
-
 static void cards(void)
 {
     static const uint8_t bad[] = {0, 0, 17, 4, 3, 0, 0, 11, 0, 16, 0};
-    TRY(0, 0, card_read(c1, 8, lent.numbers, lent.columns));
-    TRY(1, 0, card_read(NULL, 0, lent.numbers, lent.columns));
-    TRY(1, 0, card_read(c1, 1, lent.numbers, lent.columns));
-    TRY(2, 0, card_read(bad, 2, lent.numbers, lent.columns));
-    TRY(2, 0, card_read(bad + 2, 8, lent.numbers, lent.columns));
-    TRY(3, 0, card_read(c1 + 4, 4, lent.numbers, lent.columns));
-    TRY(4, 0, card_read(c1, 7, lent.numbers, lent.columns));
-    TRY(5, 0, card_read(bad + 3, 8, lent.numbers, lent.columns)); /* columns 0 and 2 are wrong: the first */
-    TRY(0, 0, card_write(4, 3, columns, 3, lent.out, 8));
-    TRY(2, 0, card_write(0, 0, NULL, 0, NULL, 0));
-    TRY(2, 0, card_write(SIZE_MAX, 3, columns, 3, lent.out, 8));
-    TRY(3, 0, card_write(4, 0, NULL, 0, NULL, 0));
-    TRY(3, 0, card_write(4, ((size_t)1 << 32) + 3, columns, 3, lent.out, 8));
-    TRY(4, 0, card_write(4, 3, NULL, 0, NULL, 0));
-    TRY(4, 0, card_write(4, 3, columns, 4, lent.out, 8));
-    TRY(5, 1, card_write(4, 3, wrong_columns, 3, NULL, 0));
-    TRY(7, 0, card_write(4, 3, columns, 3, NULL, 0));
-    TRY(7, 0, card_write(4, 3, columns, 3, lent.out, 9));
+    TRY(0, 0, card_read(false, c1, 8, lent.numbers, lent.columns, lent.wears));
+    TRY(1, 0, card_read(false, NULL, 0, lent.numbers, lent.columns, lent.wears));
+    TRY(1, 0, card_read(false, c1, 1, lent.numbers, lent.columns, lent.wears));
+    TRY(2, 0, card_read(false, bad, 2, lent.numbers, lent.columns, lent.wears));
+    TRY(2, 0, card_read(false, bad + 2, 8, lent.numbers, lent.columns, lent.wears));
+    TRY(3, 0, card_read(false, c1 + 4, 4, lent.numbers, lent.columns, lent.wears));
+    TRY(4, 0, card_read(false, c1, 7, lent.numbers, lent.columns, lent.wears));
+    TRY(5, 0, card_read(false, bad + 3, 8, lent.numbers, lent.columns, lent.wears)); /* columns 0 and 2 are wrong: the first */
+    TRY(0, 0, card_write(false, 4, 3, columns, 3, NULL, 0, lent.out, 8));
+    TRY(2, 0, card_write(false, 0, 0, NULL, 0, NULL, 0, NULL, 0));
+    TRY(2, 0, card_write(false, SIZE_MAX, 3, columns, 3, NULL, 0, lent.out, 8));
+    TRY(3, 0, card_write(false, 4, 0, NULL, 0, NULL, 0, NULL, 0));
+    TRY(3, 0, card_write(false, 4, ((size_t)1 << 32) + 3, columns, 3, NULL, 0, lent.out, 8));
+    TRY(4, 0, card_write(false, 4, 3, NULL, 0, NULL, 0, NULL, 0));
+    TRY(4, 0, card_write(false, 4, 3, columns, 4, NULL, 0, lent.out, 8));
+    TRY(5, 1, card_write(false, 4, 3, wrong_columns, 3, NULL, 0, NULL, 0));
+    TRY(7, 0, card_write(false, 4, 3, columns, 3, NULL, 0, NULL, 0));
+    TRY(7, 0, card_write(false, 4, 3, columns, 3, NULL, 0, lent.out, 9));
 }
 
 static void two_cards(void)
@@ -78,25 +69,25 @@ static void two_cards(void)
     uint8_t last[34]; /* the last of 16 columns is another */
     memcpy(last, most, 34);
     last[33] = 0x80;
-    TRY(0, 1, alike(c1, 8, c1, 8));
-    TRY(0, 1, alike(c1, 8, turned, 8)); /* the same columns in another order */
-    TRY(0, 1, alike(most, 34, most, 34));
-    TRY(0, 0, alike(most, 34, last, 34));
-    TRY(0, 0, alike(c1, 8, swapped, 8));        /* data disks 0 and 1 swapped: only the vectors are equal */
-    TRY(0, 0, alike(one_three, 6, threes, 6));  /* here too */
-    TRY(0, 0, alike(two_ones, 8, two_twos, 8)); /* the same columns, not as often each */
-    TRY(0, 0, alike(one_six, 6, two_five, 6));  /* equal sum and XOR */
-    TRY(0, 0, alike(c4, 6, ones, 6));           /* another k alone */
-    TRY(0, 0, alike(ones, 6, c6, 4));           /* another m */
-    TRY(1, 0, alike(NULL, 0, NULL, 0));
-    TRY(1, 0, alike(NULL, 0, wrong + 4, 6));
-    TRY(1, 0, alike(c1, 8, NULL, 0));
-    TRY(2, 0, alike(wrong, 4, c1, 1));
-    TRY(2, 0, alike(c1, 8, wrong, 4));
-    TRY(3, 0, alike(c1, 8, wrong + 2, 4));
-    TRY(4, 0, alike(c1, 8, c1, 7));
-    TRY(5, 1, alike(wrong + 4, 6, NULL, 0)); /* the first card's fault before the second's */
-    TRY(5, 1, alike(c1, 8, wrong + 4, 6));   /* the second card's column, though k and m are others */
+    TRY(0, 1, alike(false, c1, 8, false, c1, 8));
+    TRY(0, 1, alike(false, c1, 8, false, turned, 8)); /* the same columns in another order */
+    TRY(0, 1, alike(false, most, 34, false, most, 34));
+    TRY(0, 0, alike(false, most, 34, false, last, 34));
+    TRY(0, 0, alike(false, c1, 8, false, swapped, 8));        /* data disks 0 and 1 swapped: only the vectors are equal */
+    TRY(0, 0, alike(false, one_three, 6, false, threes, 6));  /* here too */
+    TRY(0, 0, alike(false, two_ones, 8, false, two_twos, 8)); /* the same columns, not as often each */
+    TRY(0, 0, alike(false, one_six, 6, false, two_five, 6));  /* equal sum and XOR */
+    TRY(0, 0, alike(false, c4, 6, false, ones, 6));           /* another k alone */
+    TRY(0, 0, alike(false, ones, 6, false, c6, 4));           /* another m */
+    TRY(1, 0, alike(false, NULL, 0, false, NULL, 0));
+    TRY(1, 0, alike(false, NULL, 0, false, wrong + 4, 6));
+    TRY(1, 0, alike(false, c1, 8, false, NULL, 0));
+    TRY(2, 0, alike(false, wrong, 4, false, c1, 1));
+    TRY(2, 0, alike(false, c1, 8, false, wrong, 4));
+    TRY(3, 0, alike(false, c1, 8, false, wrong + 2, 4));
+    TRY(4, 0, alike(false, c1, 8, false, c1, 7));
+    TRY(5, 1, alike(false, wrong + 4, 6, false, NULL, 0)); /* the first card's fault before the second's */
+    TRY(5, 1, alike(false, c1, 8, false, wrong + 4, 6));   /* the second card's column, though k and m are others */
 }
 
 static void stepped_cards(void)
@@ -128,109 +119,109 @@ static void stepped_cards(void)
 
 static void sets(void)
 {
-    TRY(0, 14, verdict(c1, 8, 14));
-    TRY(0, 14, verdict(c1, 8, 15)); /* disk 0 is determined */
-    TRY(0, 127, verdict(c1, 8, 127));
-    TRY(0, 0, verdict(c1, 8, 7));
-    TRY(0, 0, verdict(c1, 8, 0));
-    TRY(0, 2, verdict(c6, 4, 6));                      /* a disk in no column */
-    TRY(0, 0xffffffff, verdict(most, 34, 0xffffffff)); /* every disk of 32 */
-    TRY(1, 0, verdict(NULL, 0, 0xffffffff));
-    TRY(8, 0, verdict(c1, 8, 0x80));
-    TRY(8, 0, verdict(c1, 8, 0xffffffff));
-    TRY(0, 14, list(c1, 8, lent.slice, 14, lent.numbers));
-    TRY(1, 0, list(NULL, 0, NULL, 0, lent.numbers));
-    TRY(10, 14, list(c1, 8, NULL, 0, lent.numbers));
-    TRY(10, 2, list(c3, 6, lent.slice, 1, lent.numbers)); /* C12 */
-    TRY(10, 1, list(c4, 6, NULL, 0, lent.numbers));       /* every code has an entry */
-    TRY(0, 4, equations(c1, 8, 0, lent.slice, 4));
-    TRY(0, 0, equations(c6, 4, 1, NULL, 0)); /* a disk in no column has none */
-    TRY(1, 0, equations(NULL, 0, SIZE_MAX, NULL, 0));
-    TRY(9, 0, equations(c1, 8, 7, NULL, 0));
-    TRY(9, 0, equations(c1, 8, (size_t)1 << 32, lent.slice, 4));
-    TRY(10, 4, equations(c1, 8, 0, lent.slice, 3));
+    TRY(0, 14, verdict(false, c1, 8, 14));
+    TRY(0, 14, verdict(false, c1, 8, 15)); /* disk 0 is determined */
+    TRY(0, 127, verdict(false, c1, 8, 127));
+    TRY(0, 0, verdict(false, c1, 8, 7));
+    TRY(0, 0, verdict(false, c1, 8, 0));
+    TRY(0, 2, verdict(false, c6, 4, 6));                      /* a disk in no column */
+    TRY(0, 0xffffffff, verdict(false, most, 34, 0xffffffff)); /* every disk of 32 */
+    TRY(1, 0, verdict(false, NULL, 0, 0xffffffff));
+    TRY(8, 0, verdict(false, c1, 8, 0x80));
+    TRY(8, 0, verdict(false, c1, 8, 0xffffffff));
+    TRY(0, 14, list(false, c1, 8, lent.slice, 14, lent.numbers));
+    TRY(1, 0, list(false, NULL, 0, NULL, 0, lent.numbers));
+    TRY(10, 14, list(false, c1, 8, NULL, 0, lent.numbers));
+    TRY(10, 2, list(false, c3, 6, lent.slice, 1, lent.numbers)); /* C12 */
+    TRY(10, 1, list(false, c4, 6, NULL, 0, lent.numbers));       /* every code has an entry */
+    TRY(0, 4, equations(false, c1, 8, 0, lent.slice, 4));
+    TRY(0, 0, equations(false, c6, 4, 1, NULL, 0)); /* a disk in no column has none */
+    TRY(1, 0, equations(false, NULL, 0, SIZE_MAX, NULL, 0));
+    TRY(9, 0, equations(false, c1, 8, 7, NULL, 0));
+    TRY(9, 0, equations(false, c1, 8, (size_t)1 << 32, lent.slice, 4));
+    TRY(10, 4, equations(false, c1, 8, 0, lent.slice, 3));
 }
 
 static void stripes(void)
 {
-    TRY(0, 0, encode(c1, 8, 1, lent.stripe, 7));
-    TRY(1, 0, encode(NULL, 0, 0, NULL, 0));
-    TRY(6, 0, encode(c1, 8, 0, NULL, 0));                            /* L = 0 fits the null stripe, and is refused */
-    TRY(6, 0, encode(c3, 6, ((size_t)1 << 62) + 1, lent.stripe, 4)); /* four times L is 4 in 64 bits */
-    TRY(7, 0, encode(c1, 8, 1, NULL, 0));
-    TRY(7, 0, encode(c1, 8, 65536, lent.stripe, 7));
-    TRY(0, 3, rebuild(c1, 8, 1, 7, lent.stripe, 7));
-    TRY(0, 0, rebuild(c1, 8, 1, 0, lent.stripe, 7)); /* nothing lost: a check */
-    TRY(1, 0, rebuild(NULL, 0, 0, 0xffffffff, NULL, 0));
-    TRY(6, 0, rebuild(c1, 8, SIZE_MAX, 0xffffffff, NULL, 0));
-    TRY(8, 0, rebuild(c1, 8, 1, 0x80, NULL, 0));
-    TRY(7, 0, rebuild(c1, 8, 1, 14, NULL, 0));
-    TRY(7, 0, rebuild(c1, 8, 1, 14, lent.stripe, 8));
-    TRY(11, 0, rebuild(c1, 8, 1, 14, lent.stripe, 7)); /* C10 */
-    TRY(11, 0, rebuild(c3, 6, 1, 15, lent.stripe, 4));
-    TRY(12, 0, rebuild(c3, 6, 1, 1, lent.stripe, 4)); /* disk 1 and its mirror differ */
+    TRY(0, 0, encode(false, c1, 8, 1, lent.stripe, 7));
+    TRY(1, 0, encode(false, NULL, 0, 0, NULL, 0));
+    TRY(6, 0, encode(false, c1, 8, 0, NULL, 0));                            /* L = 0 fits the null stripe, and is refused */
+    TRY(6, 0, encode(false, c3, 6, ((size_t)1 << 62) + 1, lent.stripe, 4)); /* four times L is 4 in 64 bits */
+    TRY(7, 0, encode(false, c1, 8, 1, NULL, 0));
+    TRY(7, 0, encode(false, c1, 8, 65536, lent.stripe, 7));
+    TRY(0, 3, rebuild(false, c1, 8, 1, 7, lent.stripe, 7));
+    TRY(0, 0, rebuild(false, c1, 8, 1, 0, lent.stripe, 7)); /* nothing lost: a check */
+    TRY(1, 0, rebuild(false, NULL, 0, 0, 0xffffffff, NULL, 0));
+    TRY(6, 0, rebuild(false, c1, 8, SIZE_MAX, 0xffffffff, NULL, 0));
+    TRY(8, 0, rebuild(false, c1, 8, 1, 0x80, NULL, 0));
+    TRY(7, 0, rebuild(false, c1, 8, 1, 14, NULL, 0));
+    TRY(7, 0, rebuild(false, c1, 8, 1, 14, lent.stripe, 8));
+    TRY(11, 0, rebuild(false, c1, 8, 1, 14, lent.stripe, 7)); /* C10 */
+    TRY(11, 0, rebuild(false, c3, 6, 1, 15, lent.stripe, 4));
+    TRY(12, 0, rebuild(false, c3, 6, 1, 1, lent.stripe, 4)); /* disk 1 and its mirror differ */
 }
 
 static void partial_rebuilds(void)
 {
-    TRY(0, 14, partial_rebuild(c1, 8, 1, 15, lent.stripe, 7));
-    TRY(0, 14, partial_rebuild(c1, 8, 1, 14, lent.stripe, 7)); /* C10's loss, and no 11 */
-    TRY(0, 127, partial_rebuild(c1, 8, 1, 127, lent.stripe, 7));
-    TRY(0, 0, partial_rebuild(c1, 8, 1, 7, lent.stripe, 7));
-    TRY(0, 0, partial_rebuild(c1, 8, 1, 0, lent.stripe, 7)); /* nothing lost: a check */
-    TRY(0, 0xffffffff, partial_rebuild(most, 34, 1, 0xffffffff, lent.out, 32));
-    TRY(1, 0, partial_rebuild(NULL, 0, 0, 0xffffffff, NULL, 0));
-    TRY(2, 0, partial_rebuild(wrong, 4, 0, 0xffffffff, NULL, 0));
-    TRY(3, 0, partial_rebuild(wrong + 2, 4, 0, 0xffffffff, NULL, 0));
-    TRY(4, 0, partial_rebuild(c1, 7, 0, 0xffffffff, NULL, 0));
-    TRY(5, 1, partial_rebuild(wrong + 4, 6, 0, 0xffffffff, NULL, 0));
-    TRY(6, 0, partial_rebuild(c1, 8, 0, 0xffffffff, NULL, 0));
-    TRY(6, 0, partial_rebuild(c1, 8, SIZE_MAX, 0xffffffff, NULL, 0));
-    TRY(6, 0, partial_rebuild(c3, 6, ((size_t)1 << 62) + 1, 15, lent.stripe, 4)); /* four times L is 4 in 64 bits */
-    TRY(8, 0, partial_rebuild(c1, 8, 1, 0x80, NULL, 0));
-    TRY(8, 0, partial_rebuild(c1, 8, 1, 0xffffffff, lent.stripe, 7));
-    TRY(7, 0, partial_rebuild(c1, 8, 1, 14, NULL, 0));
-    TRY(7, 0, partial_rebuild(c1, 8, 1, 15, lent.stripe, 6));
-    TRY(7, 0, partial_rebuild(c1, 8, 1, 15, lent.stripe, 8));
-    TRY(12, 0, partial_rebuild(c3, 6, 1, 1, lent.stripe, 4)); /* disk 1 and its mirror differ */
-    TRY(12, 0, partial_rebuild(c3, 6, 1, 5, lent.stripe, 4)); /* in a fatal loss too */
+    TRY(0, 14, partial_rebuild(false, c1, 8, 1, 15, lent.stripe, 7));
+    TRY(0, 14, partial_rebuild(false, c1, 8, 1, 14, lent.stripe, 7)); /* C10's loss, and no 11 */
+    TRY(0, 127, partial_rebuild(false, c1, 8, 1, 127, lent.stripe, 7));
+    TRY(0, 0, partial_rebuild(false, c1, 8, 1, 7, lent.stripe, 7));
+    TRY(0, 0, partial_rebuild(false, c1, 8, 1, 0, lent.stripe, 7)); /* nothing lost: a check */
+    TRY(0, 0xffffffff, partial_rebuild(false, most, 34, 1, 0xffffffff, lent.out, 32));
+    TRY(1, 0, partial_rebuild(false, NULL, 0, 0, 0xffffffff, NULL, 0));
+    TRY(2, 0, partial_rebuild(false, wrong, 4, 0, 0xffffffff, NULL, 0));
+    TRY(3, 0, partial_rebuild(false, wrong + 2, 4, 0, 0xffffffff, NULL, 0));
+    TRY(4, 0, partial_rebuild(false, c1, 7, 0, 0xffffffff, NULL, 0));
+    TRY(5, 1, partial_rebuild(false, wrong + 4, 6, 0, 0xffffffff, NULL, 0));
+    TRY(6, 0, partial_rebuild(false, c1, 8, 0, 0xffffffff, NULL, 0));
+    TRY(6, 0, partial_rebuild(false, c1, 8, SIZE_MAX, 0xffffffff, NULL, 0));
+    TRY(6, 0, partial_rebuild(false, c3, 6, ((size_t)1 << 62) + 1, 15, lent.stripe, 4)); /* four times L is 4 in 64 bits */
+    TRY(8, 0, partial_rebuild(false, c1, 8, 1, 0x80, NULL, 0));
+    TRY(8, 0, partial_rebuild(false, c1, 8, 1, 0xffffffff, lent.stripe, 7));
+    TRY(7, 0, partial_rebuild(false, c1, 8, 1, 14, NULL, 0));
+    TRY(7, 0, partial_rebuild(false, c1, 8, 1, 15, lent.stripe, 6));
+    TRY(7, 0, partial_rebuild(false, c1, 8, 1, 15, lent.stripe, 8));
+    TRY(12, 0, partial_rebuild(false, c3, 6, 1, 1, lent.stripe, 4)); /* disk 1 and its mirror differ */
+    TRY(12, 0, partial_rebuild(false, c3, 6, 1, 5, lent.stripe, 4)); /* in a fatal loss too */
     /* disk 31 would come back, but disk 0 is not what its mirrors are */
-    TRY(12, 0, partial_rebuild(most, 34, 1, 0x80000002, (uint8_t *)&lent, 32));
+    TRY(12, 0, partial_rebuild(false, most, 34, 1, 0x80000002, (uint8_t *)&lent, 32));
 }
 
 static void trays(void)
 {
     static const uint32_t sets[] = {3, 0x80, 0, 0, 0, 0, 0, 0, 0};
-    TRY(0, 2, quick_repair(c1, 8, 1, sets, 1, SIZE_MAX, lent.stripe, 7, lent.sets));
-    TRY(0, 0, quick_repair(c1, 8, 1, sets, 1, 0, lent.stripe, 7, lent.sets));
-    TRY(1, 0, quick_repair(NULL, 0, 0, NULL, 0, 0, NULL, 0, lent.sets));
-    TRY(6, 0, quick_repair(c1, 8, 0, NULL, 0, 0, NULL, 0, lent.sets));
-    TRY(17, 0, quick_repair(c1, 8, 1, NULL, 0, 1, NULL, 0, lent.sets));
-    TRY(17, 0, quick_repair(c1, 8, 1, sets, 9, 1, lent.stripe, 7, lent.sets));
-    TRY(8, 0, quick_repair(c1, 8, 1, sets, 2, 1, NULL, 0, lent.sets));
-    TRY(7, 0, quick_repair(c1, 8, 1, sets, 1, 1, NULL, 0, lent.sets));
-    TRY(7, 0, quick_repair(c1, 8, 1, sets + 2, 2, 1, lent.stripe, 7, lent.sets)); /* one stripe for two sets */
-    TRY(7, 0, quick_repair(c1, 8, 1, sets, 1, 1, lent.stripe, 6, lent.sets));
+    TRY(0, 2, quick_repair(false, c1, 8, 1, sets, 1, SIZE_MAX, lent.stripe, 7, lent.sets));
+    TRY(0, 0, quick_repair(false, c1, 8, 1, sets, 1, 0, lent.stripe, 7, lent.sets));
+    TRY(1, 0, quick_repair(false, NULL, 0, 0, NULL, 0, 0, NULL, 0, lent.sets));
+    TRY(6, 0, quick_repair(false, c1, 8, 0, NULL, 0, 0, NULL, 0, lent.sets));
+    TRY(17, 0, quick_repair(false, c1, 8, 1, NULL, 0, 1, NULL, 0, lent.sets));
+    TRY(17, 0, quick_repair(false, c1, 8, 1, sets, 9, 1, lent.stripe, 7, lent.sets));
+    TRY(8, 0, quick_repair(false, c1, 8, 1, sets, 2, 1, NULL, 0, lent.sets));
+    TRY(7, 0, quick_repair(false, c1, 8, 1, sets, 1, 1, NULL, 0, lent.sets));
+    TRY(7, 0, quick_repair(false, c1, 8, 1, sets + 2, 2, 1, lent.stripe, 7, lent.sets)); /* one stripe for two sets */
+    TRY(7, 0, quick_repair(false, c1, 8, 1, sets, 1, 1, lent.stripe, 6, lent.sets));
 }
 
 static void updates(void)
 {
     static const uint8_t new_strip[] = {0x10, 0};
-    TRY(0, 4, update(c1, 8, 1, lent.stripe, 7, 0, new_strip, 1));
-    TRY(0, 1, update(c6, 4, 1, lent.stripe, 3, 1, new_strip, 1)); /* a disk in no column */
-    TRY(1, 0, update(NULL, 0, 0, NULL, 0, SIZE_MAX, NULL, 0));
-    TRY(6, 0, update(c1, 8, 0, NULL, 0, SIZE_MAX, NULL, 0));
-    TRY(6, 0, update(c3, 6, ((size_t)1 << 62) + 1, lent.stripe, 4, 0, new_strip, 1)); /* four times L is 4 in 64 bits */
-    TRY(9, 0, update(c1, 8, 1, NULL, 0, 7, NULL, 0));
-    TRY(9, 0, update(c1, 8, 1, lent.stripe, 7, (size_t)1 << 32, new_strip, 1));
-    TRY(9, 0, update(c1, 8, 1, lent.stripe, 7, SIZE_MAX, new_strip, 1));
-    TRY(18, 0, update(c1, 8, 1, NULL, 0, 4, NULL, 0));
-    TRY(18, 0, update(c1, 8, 1, lent.stripe, 7, 6, new_strip, 1));
-    TRY(7, 0, update(c1, 8, 1, NULL, 0, 0, NULL, 0));
-    TRY(7, 0, update(c1, 8, 1, lent.stripe, 6, 0, new_strip, 2));
-    TRY(7, 0, update(c1, 8, 1, lent.stripe, 8, 3, new_strip, 1));
-    TRY(19, 0, update(c1, 8, 1, lent.stripe, 7, 0, NULL, 0));
-    TRY(19, 0, update(c1, 8, 1, lent.stripe, 7, 3, new_strip, 2));
+    TRY(0, 4, update(false, c1, 8, 1, lent.stripe, 7, 0, new_strip, 1));
+    TRY(0, 1, update(false, c6, 4, 1, lent.stripe, 3, 1, new_strip, 1)); /* a disk in no column */
+    TRY(1, 0, update(false, NULL, 0, 0, NULL, 0, SIZE_MAX, NULL, 0));
+    TRY(6, 0, update(false, c1, 8, 0, NULL, 0, SIZE_MAX, NULL, 0));
+    TRY(6, 0, update(false, c3, 6, ((size_t)1 << 62) + 1, lent.stripe, 4, 0, new_strip, 1)); /* four times L is 4 in 64 bits */
+    TRY(9, 0, update(false, c1, 8, 1, NULL, 0, 7, NULL, 0));
+    TRY(9, 0, update(false, c1, 8, 1, lent.stripe, 7, (size_t)1 << 32, new_strip, 1));
+    TRY(9, 0, update(false, c1, 8, 1, lent.stripe, 7, SIZE_MAX, new_strip, 1));
+    TRY(18, 0, update(false, c1, 8, 1, NULL, 0, 4, NULL, 0));
+    TRY(18, 0, update(false, c1, 8, 1, lent.stripe, 7, 6, new_strip, 1));
+    TRY(7, 0, update(false, c1, 8, 1, NULL, 0, 0, NULL, 0));
+    TRY(7, 0, update(false, c1, 8, 1, lent.stripe, 6, 0, new_strip, 2));
+    TRY(7, 0, update(false, c1, 8, 1, lent.stripe, 8, 3, new_strip, 1));
+    TRY(19, 0, update(false, c1, 8, 1, lent.stripe, 7, 0, NULL, 0));
+    TRY(19, 0, update(false, c1, 8, 1, lent.stripe, 7, 3, new_strip, 2));
 }
 
 static void records(void)
@@ -268,6 +259,7 @@ int main(void)
     trays();
     updates();
     records();
+    editions();
     printf("bad input: %u calls from C, all by the documents' numbers\n", tried);
     return 0;
 }

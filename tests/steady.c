@@ -20,8 +20,10 @@ static const uint8_t shapes[][2] = {{1, 1}, {2, 1}, {4, 3}, {9, 4}, {10, 4}, {10
 
 enum { SPARSE, DENSE, MIXED, KINDS };
 
-/* the card as it is, for the test, and the one that is lent, with undefined columns */
-static uint8_t card[34], lent[34];
+/* the card of edition 1 as it is, for the test; and the one that is lent, with undefined columns, of either edition */
+static uint8_t card[34], lent[67];
+static size_t lent_len;
+static bool second;
 /* the stripe that is lent, and the one that it has to become */
 static uint8_t stripe[32 * 65536], sums[32 * 65536];
 static unsigned long calls, independent;
@@ -51,8 +53,19 @@ static void make_card(int kind, unsigned k, unsigned m)
         card[2 + 2 * j] = column & 255;
         card[3 + 2 * j] = column >> 8;
     }
-    memcpy(lent, card, sizeof card);
-    VALGRIND_MAKE_MEM_UNDEFINED(lent + 2, 2 * m);
+}
+
+/* edition 2 has a byte more at the front, and wears at the end */
+static void lend_card(bool in_edition_2)
+{
+    size_t m = card[1], n = card[0] + m;
+    second = in_edition_2;
+    lent_len = 2 + 2 * m + (second ? 1 + n : 0);
+    lent[0] = 0x02;
+    memcpy(lent + second, card, 2 + 2 * m);
+    for (size_t i = 0; second && i < n; i++)
+        lent[3 + 2 * m + i] = 1 + 37 * i % 255;
+    VALGRIND_MAKE_MEM_UNDEFINED(lent + second + 2, 2 * m);
 }
 
 /* The answer is made defined before it is looked at: what is reported has to be the archive's. */
@@ -66,13 +79,13 @@ static void answered(uint64_t answer, size_t length, unsigned wanted)
 
 static void call(size_t length, size_t stripe_len, unsigned wanted)
 {
-    answered(bridgecrumb_encode(lent, 2 + 2 * (size_t)card[1], length, stripe, stripe_len), length, wanted);
+    answered(bridgecrumb_encode(second, lent, lent_len, length, stripe, stripe_len), length, wanted);
 }
 
 /* strips of no byte: the first thing that is refused after the card */
 static void call_another(size_t length)
 {
-    answered(bridgecrumb_rebuild(lent, 2 + 2 * (size_t)card[1], 0, 0, stripe, 0), length, BRIDGECRUMB_STRIP_LENGTH);
+    answered(bridgecrumb_rebuild(second, lent, lent_len, 0, 0, stripe, 0), length, BRIDGECRUMB_STRIP_LENGTH);
 }
 
 /* Makes each parity strip the sum of its column's data disks. With the card that is lent it is a control: the `if` depends on a column. */
@@ -116,24 +129,33 @@ static void encode(size_t length, size_t stripe_len)
         fail("the stripe is not what the columns say", length);
 }
 
+static void try_card(const char *mode, size_t length)
+{
+    size_t stripe_len = (card[0] + card[1]) * length;
+    for (size_t i = 0; i < stripe_len; i++)
+        stripe[i] = sums[i] = 1 + (i * 40503 >> 5) % 255; /* never 0: 0 times an undefined bit is a defined 0 */
+    if (strcmp(mode, "encoded") == 0)
+        encode(length, stripe_len);
+    else if (strcmp(mode, "another") == 0)
+        call_another(length);
+    else
+        call(length, stripe_len - 1, BRIDGECRUMB_BUFFER_LENGTH);
+    if (strcmp(mode, "control") == 0) {
+        sum(lent + second, length, stripe);
+        stripe[0] = look_up(lent + second);
+    }
+}
+
+/* each kind of columns in edition 1, and mixed ones in edition 2 too */
 static void try(const char *mode, unsigned k, unsigned m, size_t length)
 {
-    size_t stripe_len = (k + m) * length;
     for (int kind = 0; kind < KINDS; kind++) {
         make_card(kind, k, m);
-        for (size_t i = 0; i < stripe_len; i++)
-            stripe[i] = sums[i] = 1 + (i * 40503 >> 5) % 255; /* never 0: 0 times an undefined bit is a defined 0 */
-        if (strcmp(mode, "encoded") == 0)
-            encode(length, stripe_len);
-        else if (strcmp(mode, "another") == 0)
-            call_another(length);
-        else
-            call(length, stripe_len - 1, BRIDGECRUMB_BUFFER_LENGTH);
-        if (strcmp(mode, "control") == 0) {
-            sum(lent, length, stripe);
-            stripe[0] = look_up(lent);
-        }
+        lend_card(false);
+        try_card(mode, length);
     }
+    lend_card(true);
+    try_card(mode, length);
 }
 
 static void try_shapes(const char *mode, size_t length)

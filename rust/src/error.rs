@@ -5,13 +5,14 @@ use std::fmt;
 /// Why a call was refused: the documents' refusals, by number.
 #[derive(Debug, Clone, Copy, PartialEq, Eq)]
 pub enum Error {
-    /// 1: the card is shorter than 2 bytes.
+    /// 1: the card is shorter than 2 bytes, or one of edition 2 is shorter than 3.
     CardShort,
     /// 2: k is outside 1 to 16.
     DataCount,
     /// 3: m is outside 1 to 16.
     ParityCount,
-    /// 4: the card's length is not 2 + 2m; for the card writer, the list has not m columns.
+    /// 4: the card's length is not 2 + 2m, or for edition 2 not 3 + 2m + n; for the card writer, the list has not m columns,
+    /// or the wears are not n for edition 2, or some for edition 1.
     CardLength,
     /// 5: a column is 0 or at least 2^k; carries the first such column's number.
     Column(usize),
@@ -25,7 +26,7 @@ pub enum Error {
     NoDisk,
     /// 10: the list is longer than the lent slice; carries the count that is needed.
     ListShort(usize),
-    /// 11: the loss of the set is fatal.
+    /// 11: the loss of the set is fatal; or, for the least-wear call, the disk has no equation among the survivors.
     Fatal,
     /// 12: no data encodes to what the surviving disks have.
     Inconsistent,
@@ -47,6 +48,12 @@ pub enum Error {
     Distance,
     /// 21: k is outside the bounds for the distance and m.
     Bounds,
+    /// 22: a card of edition 2 has another first byte than 0x02.
+    FirstByte,
+    /// 23: a disk's wear is 0.
+    ZeroWear,
+    /// 24: a card that is to become one of edition 1 has a wear that is not 1.
+    Lossy,
 }
 
 impl Error {
@@ -78,6 +85,9 @@ impl Error {
             Error::NewLength => 19,
             Error::Distance => 20,
             Error::Bounds => 21,
+            Error::FirstByte => 22,
+            Error::ZeroWear => 23,
+            Error::Lossy => 24,
         }
     }
 
@@ -86,7 +96,8 @@ impl Error {
     ///
     /// ```
     /// // C12 of document 01: C3's list has two entries
-    /// let refused = bridgecrumb::minimal_erasures(&[2, 2, 1, 0, 2, 0], &mut [0; 1]).unwrap_err();
+    /// use bridgecrumb::{minimal_erasures, Edition};
+    /// let refused = minimal_erasures(Edition::First, &[2, 2, 1, 0, 2, 0], &mut [0; 1]).unwrap_err();
     /// assert_eq!((refused.number(), refused.value()), (10, Some(2)));
     /// ```
     pub fn value(&self) -> Option<usize> {
@@ -101,10 +112,12 @@ impl Error {
 impl fmt::Display for Error {
     fn fmt(&self, out: &mut fmt::Formatter<'_>) -> fmt::Result {
         match self {
-            Error::CardShort => out.write_str("the card is shorter than 2 bytes"),
+            Error::CardShort => out.write_str("the card is too short for k and m"),
             Error::DataCount => out.write_str("the number of data disks is outside 1 to 16"),
             Error::ParityCount => out.write_str("the number of parity disks is outside 1 to 16"),
-            Error::CardLength => out.write_str("the card has not one column for each parity disk"),
+            Error::CardLength => {
+                out.write_str("the card has not one column for each parity disk, or not the wears of its edition")
+            }
             Error::Column(column) => write!(out, "column {column} is empty or has a data disk that the code lacks"),
             Error::StripLength => out.write_str("the strip length is outside 1 to 65,536"),
             Error::BufferLength => {
@@ -113,7 +126,7 @@ impl fmt::Display for Error {
             Error::OutsideSet => out.write_str("the set holds a disk that the code lacks"),
             Error::NoDisk => out.write_str("the code lacks the disk"),
             Error::ListShort(needed) => write!(out, "the lent slice is too short, {needed} entries are needed"),
-            Error::Fatal => out.write_str("the loss of the set is fatal"),
+            Error::Fatal => out.write_str("the loss of the set is fatal, or no equation of the disk survives"),
             Error::Inconsistent => out.write_str("no data encodes to what the surviving disks have"),
             Error::Mark => out.write_str("the file does not begin as a record does"),
             Error::Contents => out.write_str("the file's contents are not those of a record"),
@@ -126,6 +139,9 @@ impl fmt::Display for Error {
             Error::Bounds => {
                 out.write_str("the number of data disks is outside the bounds for the distance and the parity disks")
             }
+            Error::FirstByte => out.write_str("the card does not begin as one of edition 2 does"),
+            Error::ZeroWear => out.write_str("a disk's wear is 0"),
+            Error::Lossy => out.write_str("a disk's wear is not 1, and edition 1 has no place for it"),
         }
     }
 }

@@ -17,7 +17,7 @@ pub struct Record {
     pub lost: u32,
 }
 
-/// Takes a card, the strips' length, the set of lost disks, a stripe and an output; writes the record at the
+/// Takes a card of edition 1, the strips' length, the set of lost disks, a stripe and an output; writes the record at the
 /// output's front and leaves the rest as it was. Answers the record's length: 10 bytes, 10 for the card and
 /// for each disk, the card's, and `strip_len` for each disk that is not lost.
 ///

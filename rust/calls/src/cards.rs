@@ -1,22 +1,23 @@
 //! Cards: every small one, chosen ones, and damaged ones; and sets of their disks.
 
 use crate::choice::Choice;
-use crate::reference;
+use crate::editions::{damage_edition, of_any_edition};
+use crate::reference::{self, Card, Edition, Said};
 
-/// The bytes of a card.
-pub fn card_of(k: usize, m: usize, columns: &[u16]) -> Vec<u8> {
+/// A card of edition 1.
+pub fn card_of(k: usize, m: usize, columns: &[u16]) -> Card {
     let mut card = vec![k as u8, m as u8];
     card.extend(columns.iter().flat_map(|column| column.to_le_bytes()));
-    card
+    Card::first(card)
 }
 
 /// Document 01's C1.
-pub fn c1() -> Vec<u8> {
+pub fn c1() -> Card {
     card_of(4, 3, &[7, 11, 13])
 }
 
-/// Every card of n disks: all k, all columns.
-pub fn every_card(n: usize) -> Vec<Vec<u8>> {
+/// Every card of edition 1 of n disks: all k, all columns.
+pub fn every_card(n: usize) -> Vec<Card> {
     let mut cards = Vec::new();
     for k in 1..n {
         let mut columns = vec![1; n - k];
@@ -62,12 +63,12 @@ pub fn repeated_columns(choice: &mut Choice, k: usize, m: usize) -> Vec<u16> {
     (0..m).map(|_| choice.pick(&from)).collect()
 }
 
-pub fn card_of_size(choice: &mut Choice, k: usize, m: usize) -> Vec<u8> {
+pub fn card_of_size(choice: &mut Choice, k: usize, m: usize) -> Card {
     card_of(k, m, &any_columns(choice, k, m))
 }
 
 /// A card in which this data disk, one of two or more, stands in the columns of the set and in no other.
-pub fn card_naming(choice: &mut Choice, k: usize, m: usize, disk: usize, naming: u32) -> Vec<u8> {
+pub fn card_naming(choice: &mut Choice, k: usize, m: usize, disk: usize, naming: u32) -> Card {
     let mut columns = any_columns(choice, k, m);
     for (j, column) in columns.iter_mut().enumerate() {
         *column &= !(1 << disk);
@@ -81,8 +82,8 @@ pub fn card_naming(choice: &mut Choice, k: usize, m: usize, disk: usize, naming:
     card_of(k, m, &columns)
 }
 
-/// A good card of up to so many data and parity disks; one in 16 has as many of both.
-pub fn good_card(choice: &mut Choice, most_k: usize, most_m: usize) -> Vec<u8> {
+/// A good card of edition 1 of up to so many data and parity disks; one in 16 has as many of both.
+pub fn good_card(choice: &mut Choice, most_k: usize, most_m: usize) -> Card {
     let (k, m) = match choice.below(16) {
         0 => (most_k, most_m),
         _ => (1 + choice.below(most_k), 1 + choice.below(most_m)),
@@ -90,18 +91,32 @@ pub fn good_card(choice: &mut Choice, most_k: usize, most_m: usize) -> Vec<u8> {
     card_of_size(choice, k, m)
 }
 
-/// A card of up to so many data disks, or one with one or two faults, or any bytes.
-pub fn any_card(choice: &mut Choice, most_k: usize) -> Vec<u8> {
+/// A card of edition 1 of up to so many data disks, or one with one or two faults, or any bytes.
+pub fn any_first_card(choice: &mut Choice, most_k: usize) -> Card {
     let kind = choice.below(8);
     if kind == 0 {
         let len = choice.below(40);
-        return choice.bytes(len);
+        return Card::first(choice.bytes(len));
     }
     let mut card = if kind < 4 { good_card(choice, 4, 4) } else { good_card(choice, most_k, 16) };
     if kind == 1 {
         for _ in 0..1 + choice.below(2) {
-            damage(choice, &mut card);
+            damage(choice, &mut card.bytes);
         }
+    }
+    card
+}
+
+/// Such a card, or the same of edition 2, of which one in 8 has a fault of this edition.
+pub fn any_card(choice: &mut Choice, most_k: usize) -> Card {
+    let first = any_first_card(choice, most_k);
+    let mut card = of_any_edition(choice, first);
+    if card.edition == Edition::Second && choice.one_in(8) {
+        damage_edition(choice, &mut card);
+    }
+    // now and then an edition-1 card is named as one of edition 2
+    if card.edition == Edition::First && choice.one_in(64) {
+        card.edition = Edition::Second;
     }
     card
 }
@@ -136,13 +151,13 @@ fn damage(choice: &mut Choice, card: &mut Vec<u8>) {
 }
 
 /// How many disks a card's code has, 32 where the card is refused.
-pub fn disks_of(card: &[u8]) -> usize {
-    reference::read_card(card).map_or(32, |(k, m, _)| k + m)
+pub fn disks_of(card: &Card) -> usize {
+    reference::read_card(card).map_or(32, |said| said.k + said.m)
 }
 
 /// A set: of up to as many disks as there is parity, of any disks, of all, or with a disk that the code lacks.
-pub fn any_set(choice: &mut Choice, card: &[u8]) -> u32 {
-    let (n, m) = reference::read_card(card).map_or((32, 16), |(k, m, _)| (k + m, m));
+pub fn any_set(choice: &mut Choice, card: &Card) -> u32 {
+    let (n, m) = reference::read_card(card).map_or((32, 16), |said| (said.k + said.m, said.m));
     let all = ((1u64 << n) - 1) as u32;
     match choice.below(16) {
         0 => choice.number() as u32,
@@ -157,19 +172,19 @@ pub fn any_set(choice: &mut Choice, card: &[u8]) -> u32 {
 }
 
 /// A fatal set of a code: a data disk with the parity disks whose columns name it, which are undetermined, and so many other disks.
-pub fn fatal_set(choice: &mut Choice, card: &[u8], others: usize) -> u32 {
-    let (k, m, columns) = reference::read_card(card).expect("a code");
+pub fn fatal_set(choice: &mut Choice, card: &Card, others: usize) -> u32 {
+    let Said { k, m, columns, .. } = reference::read_card(card).expect("a code");
     let disk = choice.below(k);
     let naming = (0..m).filter(|&j| columns[j] >> disk & 1 == 1).map(|j| 1 << (k + j));
     choice.set(k + m, others.min(k + m)) | 1 << disk | naming.sum::<u32>()
 }
 
 /// A loss, fatal about as often as not: none, a fatal set with up to as many other disks as there is parity, or any set.
-pub fn any_loss(choice: &mut Choice, card: &[u8]) -> u32 {
+pub fn any_loss(choice: &mut Choice, card: &Card) -> u32 {
     match (choice.below(8), reference::read_card(card)) {
         (0, _) => 0,
-        (1 | 2, Ok((_, m, _))) => {
-            let others = choice.below(m + 1);
+        (1 | 2, Ok(said)) => {
+            let others = choice.below(said.m + 1);
             fatal_set(choice, card, others)
         }
         _ => any_set(choice, card),

@@ -1,16 +1,18 @@
 //! What a call is given, and what it answers.
 
-use crate::reference::Refusal;
+use crate::reference::{Card, Refusal};
 
 /// The arguments of a call; each has those that its declaration names.
 #[derive(Clone, Debug, Default)]
 pub struct Input {
-    pub card: Vec<u8>,
+    /// The card with its edition; of one that is to be written, the edition alone.
+    pub card: Card,
     /// The other card of two.
-    pub second: Vec<u8>,
+    pub other: Card,
     pub k: usize,
     pub m: usize,
     pub columns: Vec<u16>,
+    pub wears: Vec<u8>,
     /// That of a card from three numbers.
     pub distance: usize,
     pub strip_len: usize,

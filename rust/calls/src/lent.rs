@@ -1,6 +1,7 @@
 //! Buffers that are lent to a call: each begins or ends at a closed page or stands at any place between, and beside its open ends stand
 //! guarding bytes. Pages are closed by the system's own calls, which Linux has as declared here.
 
+use crate::reference::{Card, Edition};
 use std::ffi::c_void;
 use std::slice;
 
@@ -179,6 +180,12 @@ impl Lent {
         self.pointer(at, len)
     }
 
+    /// A card as the archive's calls take it.
+    pub fn card(&mut self, card: &Card) -> (bool, *const u8, usize) {
+        let (at, len) = self.read(&card.bytes);
+        (card.edition == Edition::Second, at, len)
+    }
+
     /// Bytes of which the last stand on closed pages.
     pub fn read_closed(&mut self, content: &[u8], closed: usize) -> (*const u8, usize) {
         if closed == 0 {
@@ -193,6 +200,11 @@ impl Lent {
         let at = self.next::<T>(as_bytes(content), false);
         // SAFETY: as many numbers were copied there, and the pages stay open; they are aligned, since pages and guards are
         unsafe { slice::from_raw_parts(at.cast(), content.len()) }
+    }
+
+    /// A card as the safe functions take it.
+    pub fn named_card<'a>(&mut self, card: &Card) -> (bridgecrumb::Edition, &'a [u8]) {
+        (card.edition.named(), self.slice(&card.bytes))
     }
 
     pub fn slice_mut<'a, T: Plain>(&mut self, content: &[T]) -> &'a mut [T] {
@@ -212,6 +224,11 @@ impl Lent {
         let room = self.rooms[..self.used].iter_mut().filter(|room| room.may_be_written).nth(n).expect("such a buffer");
         // SAFETY: the content lies in the room's open pages
         unsafe { slice::from_raw_parts_mut(room.at(), room.content.len()) }
+    }
+
+    /// All buffers that may be written, as they are now.
+    pub fn all_written(&self) -> Vec<Vec<u8>> {
+        self.rooms[..self.used].iter().filter(|room| room.may_be_written).map(|room| room.now().to_vec()).collect()
     }
 
     /// The n-th buffer that is only read.

@@ -5,6 +5,7 @@
 
 pub mod cards;
 pub mod choice;
+pub mod editions;
 pub mod input;
 pub mod lent;
 pub mod planted;

@@ -1,15 +1,15 @@
 //! Record files: good ones by the reference, and files damaged in a field or more, cut off, lengthened, or only alike at their beginning.
 
-use crate::cards::{any_set, c1, card_of, good_card};
+use crate::cards::{any_set, c1, card_of, card_of_size, disks_of, good_card};
 use crate::choice::Choice;
+use crate::editions::worn;
 use crate::input::Input;
-use crate::reference::{read_card, records};
+use crate::reference::{records, Card};
 use crate::stripes::LONG;
 
 /// The record of a card with any bytes in its strips.
-pub fn record_of(choice: &mut Choice, card: &[u8], strip_len: usize, lost: u32) -> Vec<u8> {
-    let (k, m, _) = read_card(card).expect("a good card");
-    let stripe = choice.bytes((k + m) * strip_len);
+pub fn record_of(choice: &mut Choice, card: &Card, strip_len: usize, lost: u32) -> Vec<u8> {
+    let stripe = choice.bytes(disks_of(card) * strip_len);
     records::write(card, strip_len, lost, &stripe, usize::MAX).expect("a record")
 }
 
@@ -45,6 +45,7 @@ pub fn any_file(choice: &mut Choice) -> Input {
         0 | 1 => file = any_string(choice, file),
         2 | 3 => {}
         4 => closed = file.len() - strips_at(&file),
+        5 => file = of_edition_2(choice, &card, 1 + strip_len % 20),
         _ => (0..choice.pick(&[1, 1, 2, 2, 3])).for_each(|_| damage(choice, &mut file, strip_len)),
     }
     Input { file, closed, ..Input::default() }
@@ -169,10 +170,10 @@ pub fn every_damage(file: &[u8], choice: &mut Choice, then: &mut dyn FnMut(&[u8]
         damaged[..len.min(file.len())].copy_from_slice(&file[..len.min(file.len())]);
         then(&damaged);
     }
-    let card = &file[number_at(file, 12, 4) as usize..strips_at(file)];
+    let card = Card::first(file[number_at(file, 12, 4) as usize..strips_at(file)].to_vec());
     for strip_len in 1..=6 {
         for lost in 0..1 << (card[0] + card[1]) {
-            let mut other = record_of(choice, card, strip_len, lost);
+            let mut other = record_of(choice, &card, strip_len, lost);
             other.resize(file.len(), 7);
             then(&other);
         }
@@ -202,6 +203,23 @@ pub fn other_counts(choice: &mut Choice, then: &mut dyn FnMut(&[u8])) {
     put(&mut file, 46, 4, strip_len as u64);
     file.truncate(46 + 2 * strip_len);
     then(&file);
+}
+
+/// What would be the record of the card in edition 2, were there such; with as many entries as it has disks, or as its bytes would have in
+/// edition 1.
+fn of_edition_2(choice: &mut Choice, card: &Card, strip_len: usize) -> Vec<u8> {
+    let entries = 1 + choice.pick(&[disks_of(card), 2 + usize::from(card[0])]);
+    with_entries(&worn(choice, card), strip_len, entries)
+}
+
+/// Cards of edition 2 in records: with k = 3m + 1 their length is right in edition 1, in which they have 2 data disks.
+pub fn other_editions(choice: &mut Choice, then: &mut dyn FnMut(&[u8])) {
+    for m in 1..=16 {
+        for k in [1, 2, 3, 3 * m + 1, 16] {
+            let card = card_of_size(choice, k.min(16), m);
+            (0..8).for_each(|_| then(&of_edition_2(choice, &card, 2)));
+        }
+    }
 }
 
 /// The record of the card with so many entries; disks that the code lacks are lost.

@@ -3,7 +3,7 @@
 use crate::cards::disks_of;
 use crate::choice::Choice;
 use crate::reference::strips::encoded;
-use crate::reference::{outline, Code};
+use crate::reference::{outline, Card, Code};
 
 /// Both sides of the lengths at which blocks end.
 const COMMON: [usize; 21] = [1, 1, 2, 3, 4, 7, 8, 9, 15, 16, 17, 31, 32, 33, 63, 64, 65, 127, 128, 129, 257];
@@ -68,7 +68,7 @@ pub fn stripe_of(choice: &mut Choice, code: &Code, strip_len: usize, lost: u32) 
 }
 
 /// A stripe of about the right length for a card.
-pub fn any_stripe(choice: &mut Choice, card: &[u8], strip_len: usize, lost: u32) -> Vec<u8> {
+pub fn any_stripe(choice: &mut Choice, card: &Card, strip_len: usize, lost: u32) -> Vec<u8> {
     let n = disks_of(card);
     let len = any_stripe_len(choice, n, strip_len);
     match outline(card) {

@@ -3,20 +3,23 @@
 use crate::choice::Choice;
 use crate::input::{Input, Told};
 use crate::lent::{Lent, Place};
-use crate::rows::{cards, records, sets, stepped, strips, trays, updates};
+use crate::reference::Edition;
+use crate::rows::{alike, cards, converters, records, sets, stepped, strips, trays, updates, wear};
 
 /// A call.
 #[derive(Clone, Copy)]
 pub struct Row {
     /// As the header has it, without its prefix.
     pub name: &'static str,
+    /// The editions that a card of it can have; one where the caller does not name it.
+    pub editions: &'static [Edition],
     /// Arguments by choice, good and bad.
     pub any: fn(&mut Choice) -> Input,
     /// All arguments, as far as they can be counted, that have to do with codes of so many disks.
     pub every: fn(usize, &mut Choice, &mut dyn FnMut(&Input)),
-    /// Arguments that are accepted, and what spoils them: for each refusal in the documents' order, the ways to it.
-    pub good: fn() -> Input,
-    pub faults: fn() -> Vec<Vec<Fault>>,
+    /// Arguments that are accepted, with a card of this edition, and what spoils them: for each refusal in the documents' order, the ways to it.
+    pub good: fn(Edition) -> Input,
+    pub faults: fn(Edition) -> Vec<Vec<Fault>>,
     /// Whether the reference takes long.
     pub heavy: fn(&Input) -> bool,
     /// The archive's call, as the header declares it.
@@ -37,15 +40,18 @@ pub struct Fault {
 }
 
 /// In the header's order.
-pub const TABLE: [Row; 15] = [
+pub const TABLE: [Row; 18] = [
     cards::READ,
     cards::WRITE,
+    converters::UP,
+    converters::DOWN,
     stepped::STEPPED,
-    cards::ALIKE,
+    alike::ALIKE,
     strips::ENCODE,
     sets::VERDICT,
     sets::LIST,
     sets::EQUATIONS,
+    wear::LEAST_WEAR,
     strips::REBUILD,
     strips::PARTIAL_REBUILD,
     trays::QUICK_REPAIR,

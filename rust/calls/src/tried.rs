@@ -29,8 +29,8 @@ impl Tried {
 
     /// Fails unless the call has been accepted, and refused for each reason that it has and for no other.
     pub fn every_refusal(&self, place: usize, row: &Row) {
-        let mut numbers: Vec<u64> =
-            (row.faults)().iter().flatten().map(|fault| fault.answer % 256).chain([0]).collect();
+        let faults = row.editions.iter().flat_map(|&edition| (row.faults)(edition)).flatten();
+        let mut numbers: Vec<u64> = faults.map(|fault| fault.answer % 256).chain([0]).collect();
         numbers.sort_unstable();
         numbers.dedup();
         let met: Vec<u64> = self.numbers[place].keys().copied().collect();

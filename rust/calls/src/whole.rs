@@ -4,11 +4,11 @@ use crate::cards::{card_of, card_of_size};
 use crate::choice::Choice;
 use crate::input::Input;
 use crate::reference::strips::encoded;
-use crate::reference::{outline, records};
+use crate::reference::{outline, records, Card};
 use crate::stripes::lose;
 
 /// A stripe that has lost these disks, alone, in a record and in a tray, and a new strip.
-fn lost_of(choice: &mut Choice, card: Vec<u8>, lost: u32, strip_len: usize) -> Input {
+fn lost_of(choice: &mut Choice, card: Card, lost: u32, strip_len: usize) -> Input {
     let code = outline(&card).expect("a code");
     let mut stripe = encoded(&code, strip_len, &choice.bytes(code.n() * strip_len));
     lose(choice, lost, strip_len, &mut stripe);
@@ -37,7 +37,7 @@ pub fn of_length(choice: &mut Choice, strip_len: usize) -> Vec<Input> {
     inputs
 }
 
-/// The codes of most disks: each disk lost, each disk and the next, all but it, all data, all parity and all disks. The second card has the
+/// The codes of most disks: each disk lost, each disk and the next, all but it, all data, all parity and all disks. The other card has the
 /// same columns, turned on by one place from input to input.
 pub fn largest(choice: &mut Choice, k: usize, m: usize) -> Vec<Input> {
     let card = card_of_size(choice, k, m);
@@ -48,9 +48,9 @@ pub fn largest(choice: &mut Choice, k: usize, m: usize) -> Vec<Input> {
     let sets = near.chain([0, data, all ^ data, all]);
     let of_set = |(at, set): (usize, u32)| {
         let input = lost_of(choice, card.clone(), set, 16);
-        let mut second = card.clone();
-        second[2..].rotate_left(2 * (at % m));
-        Input { second, disk: at / 3 % n, out_len: 1 << 16, ..input }
+        let mut other = card.clone();
+        other[2..].rotate_left(2 * (at % m));
+        Input { other, disk: at / 3 % n, out_len: 1 << 16, ..input }
     };
     sets.enumerate().map(of_set).collect()
 }

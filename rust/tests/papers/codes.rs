@@ -1,5 +1,7 @@
 //! A code, and the engine's answers about it.
 
+use bridgecrumb::Edition;
+
 /// What a lent slot holds that the engine leaves alone.
 const FREE: u32 = 0xDEAD_BEEF;
 
@@ -49,7 +51,7 @@ impl Code {
     /// The engine's list. The vector that comes with it has to count it, and what is past it stays.
     pub fn listed(&self) -> Vec<u32> {
         let mut out = vec![FREE; 1 << self.k];
-        let answer = bridgecrumb::minimal_erasures(&self.card(), &mut out).expect("a sound card");
+        let answer = bridgecrumb::minimal_erasures(Edition::First, &self.card(), &mut out).expect("a sound card");
         assert!(out[answer.count..].iter().all(|&slot| slot == FREE), "{:?}", self);
         out.truncate(answer.count);
         let mut vector = [0; 17];
@@ -62,7 +64,7 @@ impl Code {
     /// The engine's vector: m + 1 numbers, where document 000's has m.
     pub fn vector(&self) -> Vec<usize> {
         let mut out = vec![FREE; 1 << self.k];
-        let answer = bridgecrumb::minimal_erasures(&self.card(), &mut out).expect("a sound card");
+        let answer = bridgecrumb::minimal_erasures(Edition::First, &self.card(), &mut out).expect("a sound card");
         answer.vector[..=self.m()].to_vec()
     }
 
@@ -73,7 +75,7 @@ impl Code {
 
     /// The engine's verdict: the disks of the set that stay undetermined.
     pub fn undetermined(&self, set: u32) -> u32 {
-        bridgecrumb::undetermined(&self.card(), set).expect("a set of this code")
+        bridgecrumb::undetermined(Edition::First, &self.card(), set).expect("a set of this code")
     }
 
     pub fn is_fatal(&self, set: u32) -> bool {
@@ -83,7 +85,7 @@ impl Code {
     /// The engine's equations of a disk.
     pub fn equations(&self, disk: usize) -> Vec<u32> {
         let mut out = vec![FREE; 1 << self.m()];
-        let count = bridgecrumb::equations(&self.card(), disk, &mut out).expect("a disk of this code");
+        let count = bridgecrumb::equations(Edition::First, &self.card(), disk, &mut out).expect("a disk of this code");
         assert!(out[count..].iter().all(|&slot| slot == FREE), "{:?}", self);
         out.truncate(count);
         out

@@ -3,7 +3,7 @@
 use crate::codes::{by_size, choose, size, Code};
 use crate::graphs::cycles;
 use crate::plain::{compare, shortest_equations};
-use bridgecrumb::{read_card, write_stepped_card, Error};
+use bridgecrumb::{read_card, write_stepped_card, Edition, Error};
 
 /// III-A: "each parity equation is the XOR sum of d - 1 contiguous data elements, wrapping around
 /// appropriately after the k-th". The formula beside it sums from i = j to j + d - 1, which is one too
@@ -173,7 +173,7 @@ fn the_stepped_codes_of_figure_5() {
 fn stepped_card(d: usize, m: usize, k: usize) -> Result<Code, Error> {
     let mut card = vec![0; 2 + 2 * m];
     write_stepped_card(d, m, k, &mut card)?;
-    Ok(Code::new(k, &read_card(&card)?.columns[..m]))
+    Ok(Code::new(k, &read_card(Edition::First, &card)?.columns[..m]))
 }
 
 /// Document 02's call beside the construction above: it takes the same m and no other, and as many

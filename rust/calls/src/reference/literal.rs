@@ -35,7 +35,7 @@ pub fn minimal_erasures(code: &Code) -> Vec<u32> {
 }
 
 /// Is this a set without the disk whose XOR equals the disk for every data word?
-fn equation(code: &Code, disk: usize, set: u32) -> bool {
+pub fn equation(code: &Code, disk: usize, set: u32) -> bool {
     let xor = |held: u32| (0..code.n()).filter(|d| set >> d & 1 == 1).fold(0, |sum, d| sum ^ (held >> d & 1));
     set >> disk & 1 == 0 && code.held.iter().all(|&held| xor(held) == held >> disk & 1)
 }

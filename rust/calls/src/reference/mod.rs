@@ -4,6 +4,7 @@
 //! sets by the paper's own definition (`literal`). For codes of more than `LITERAL_DISKS` disks that takes
 //! too long; `quick` then goes through the data words alone. tests/engine/methods.rs compares the two.
 
+pub mod cards;
 pub mod literal;
 pub mod quick;
 pub mod records;
@@ -11,6 +12,9 @@ pub mod stepped;
 pub mod strips;
 pub mod trays;
 pub mod updates;
+pub mod wear;
+
+pub use cards::{alike, read_card, write_card, Card, Edition, Said};
 
 use std::cell::RefCell;
 use std::collections::HashMap;
@@ -63,6 +67,11 @@ impl Code {
     pub fn parity_disks(&self, set: u32) -> usize {
         (self.k..self.n()).filter(|disk| set >> disk & 1 == 1).count()
     }
+
+    /// What orders equations by total wear, then as the list does: by size, parity disks and set number.
+    pub fn order(&self, wears: &[u8], set: u32) -> (u32, u32, usize, u32) {
+        (wear::total(wears, set), set.count_ones(), self.parity_disks(set), set)
+    }
 }
 
 /// What the disks hold for a data word: a data disk its own bit, a parity disk the XOR of the bits of its data disks, which
@@ -76,57 +85,9 @@ fn word_held(k: usize, columns: &[u16], word: u32) -> u32 {
     disks
 }
 
-/// Refusals 2 and 3.
-fn check_counts(k: usize, m: usize) -> Result<(), Refusal> {
-    if !(1..=16).contains(&k) {
-        return refusal(2);
-    }
-    if !(1..=16).contains(&m) {
-        return refusal(3);
-    }
-    Ok(())
-}
-
-/// Refusals 2 to 5 of a card or of what a card is to be written from; `right_len` is what 4 is about.
-fn check(k: usize, m: usize, right_len: bool, columns: &[u16]) -> Result<(), Refusal> {
-    check_counts(k, m)?;
-    if !right_len {
-        return refusal(4);
-    }
-    match columns.iter().position(|&column| column == 0 || u32::from(column) >= 1 << k) {
-        Some(j) => Err((5, Some(j))),
-        None => Ok(()),
-    }
-}
-
-/// The card reader: k, m and the columns.
-pub fn read_card(card: &[u8]) -> Result<(usize, usize, Vec<u16>), Refusal> {
-    if card.len() < 2 {
-        return refusal(1);
-    }
-    let (k, m) = (usize::from(card[0]), usize::from(card[1]));
-    let columns: Vec<u16> = card[2..].chunks_exact(2).map(|two| u16::from(two[0]) + 256 * u16::from(two[1])).collect();
-    check(k, m, card.len() == 2 + 2 * m, &columns)?;
-    Ok((k, m, columns))
-}
-
-/// The card writer: what it puts into a buffer of this length.
-pub fn write_card(k: usize, m: usize, columns: &[u16], out_len: usize) -> Result<Vec<u8>, Refusal> {
-    check(k, m, columns.len() == m, columns)?;
-    if out_len != 2 + 2 * m {
-        return refusal(7);
-    }
-    let mut card = vec![k as u8, m as u8];
-    for column in columns {
-        card.push((column % 256) as u8);
-        card.push((column / 256) as u8);
-    }
-    Ok(card)
-}
-
 /// The card's code without what its disks hold, or its refusal.
-pub fn outline(card: &[u8]) -> Result<Code, Refusal> {
-    let (k, m, columns) = read_card(card)?;
+pub fn outline(card: &Card) -> Result<Code, Refusal> {
+    let Said { k, m, columns, .. } = read_card(card)?;
     Ok(Code {
         k,
         m,
@@ -143,12 +104,12 @@ thread_local! {
     static KNOWN: RefCell<(HashMap<Vec<u8>, Rc<Code>>, usize)> = RefCell::default();
 }
 
-/// The card's code, or its refusal.
-pub fn code(card: &[u8]) -> Result<Rc<Code>, Refusal> {
-    if let Some(code) = KNOWN.with(|known| known.borrow().0.get(card).cloned()) {
+/// The card's code, which is one for all cards with the same k, m and columns, or the card's refusal.
+pub fn code(card: &Card) -> Result<Rc<Code>, Refusal> {
+    let mut code = outline(card)?;
+    if let Some(code) = KNOWN.with(|known| known.borrow().0.get(card.code_bytes()).cloned()) {
         return Ok(code);
     }
-    let mut code = outline(card)?;
     code.held = (0..1 << code.k).map(|word| word_held(code.k, &code.columns, word)).collect();
     let code = Rc::new(code);
     KNOWN.with(|known| {
@@ -157,7 +118,7 @@ pub fn code(card: &[u8]) -> Result<Rc<Code>, Refusal> {
             codes.clear();
             *words = 0;
         }
-        codes.insert(card.to_vec(), code.clone());
+        codes.insert(card.code_bytes().to_vec(), code.clone());
         *words += code.held.len();
     });
     Ok(code)
@@ -203,18 +164,6 @@ pub fn equations(code: &Code, disk: usize) -> Result<Rc<Vec<u32>>, Refusal> {
         Rc::new(found)
     });
     Ok(made.clone())
-}
-
-/// Two cards alike: the same k and m, and the same columns in some order, which are then equal in the order of their numbers.
-pub fn alike(first: &[u8], second: &[u8]) -> Result<bool, Refusal> {
-    let sorted = |card: &[u8]| {
-        read_card(card).map(|(k, m, mut columns)| {
-            columns.sort_unstable();
-            (k, m, columns)
-        })
-    };
-    let (first, second) = (sorted(first)?, sorted(second)?);
-    Ok(first == second)
 }
 
 /// A list that goes into a slice of this length.

@@ -1,6 +1,6 @@
-//! The record file: its bytes one after the other, and its faults in the order that document 01 gives them.
+//! The record file: its bytes one after the other, and its faults in the order that document 01 gives them. Its card has edition 1.
 
-use super::{outline, read_card, refusal, strips, Refusal};
+use super::{outline, read_card, refusal, strips, Card, Refusal, Said};
 use std::ops::Range;
 
 const MARK: [u8; 4] = [0x46, 0x58, 0x43, 0x31];
@@ -38,7 +38,7 @@ fn entry(kind: u8, disk: usize, offset: usize, length: usize) -> Vec<u8> {
 
 /// The writer: the record's bytes.
 pub fn write(card: &[u8], strip_len: usize, lost: u32, stripe: &[u8], out_len: usize) -> Result<Vec<u8>, Refusal> {
-    let code = outline(card)?;
+    let code = outline(&Card::first(card.to_vec()))?;
     strips::check(&code, strip_len, lost, stripe.len())?;
     let entries = code.n() + 1;
     let mut record = [&MARK[..], &low_first(strip_len, 4), &low_first(entries, 2)].concat();
@@ -80,7 +80,8 @@ pub fn read(file: &[u8]) -> Result<Read, Refusal> {
     if kind != 0 || disk != 0 || card_at != 10 + 10 * entries || card_at + card_len > file.len() {
         return refusal(14);
     }
-    let (k, m, columns) = read_card(&file[card_at..card_at + card_len])?;
+    let card = Card::first(file[card_at..card_at + card_len].to_vec());
+    let Said { k, m, columns, .. } = read_card(&card)?;
     if entries != k + m + 1 {
         return refusal(14);
     }

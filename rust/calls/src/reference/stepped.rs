@@ -1,6 +1,7 @@
 //! Document 02, request [7]: the Stepped Combination card, its parity sets looked up among all numbers.
 
-use super::{check_counts, refusal, write_card, Refusal};
+use super::cards::check_counts;
+use super::{refusal, write_card, Edition, Refusal, Said};
 
 /// The bounds on k, as document 002, III-C, prints them. With m = 1 no k is within them, says document 02.
 pub fn within_bounds(d: usize, m: usize, k: usize) -> bool {
@@ -35,5 +36,6 @@ pub fn card(d: usize, m: usize, k: usize, out_len: usize) -> Result<Vec<u8>, Ref
     if !within_bounds(d, m, k) {
         return refusal(21);
     }
-    write_card(k, m, &columns(m, &parity_sets(d, m)[..k]), out_len)
+    let columns = columns(m, &parity_sets(d, m)[..k]);
+    write_card(Edition::First, &Said { k, m, columns, wears: Vec::new() }, out_len)
 }

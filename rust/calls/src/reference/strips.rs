@@ -1,6 +1,6 @@
 //! Encoding and rebuilding: eight data words for each place of the strips, one for each bit of a byte.
 
-use super::{code, literal, outline, quick, refusal, verdict, Code, Refusal};
+use super::{code, literal, outline, quick, refusal, verdict, Card, Code, Refusal};
 use std::collections::HashMap;
 use std::rc::Rc;
 
@@ -42,7 +42,7 @@ pub fn encoded(code: &Code, strip_len: usize, stripe: &[u8]) -> Vec<u8> {
 }
 
 /// The encoder: the stripe afterwards.
-pub fn encode(card: &[u8], strip_len: usize, stripe: &[u8]) -> Result<Vec<u8>, Refusal> {
+pub fn encode(card: &Card, strip_len: usize, stripe: &[u8]) -> Result<Vec<u8>, Refusal> {
     let code = outline(card)?;
     check(&code, strip_len, 0, stripe.len())?;
     Ok(encoded(&code, strip_len, stripe))
@@ -106,7 +106,7 @@ fn agreeing(code: &Code, lost: u32) -> Rc<quick::Agreeing> {
 }
 
 /// The rebuilder: the answer, and the stripe afterwards.
-pub fn rebuild(card: &[u8], strip_len: usize, lost: u32, stripe: &[u8]) -> Result<(usize, Vec<u8>), Refusal> {
+pub fn rebuild(card: &Card, strip_len: usize, lost: u32, stripe: &[u8]) -> Result<(usize, Vec<u8>), Refusal> {
     check(&outline(card)?, strip_len, lost, stripe.len())?;
     let code = code(card)?;
     if verdict(&code, lost)? != 0 {
@@ -116,7 +116,7 @@ pub fn rebuild(card: &[u8], strip_len: usize, lost: u32, stripe: &[u8]) -> Resul
 }
 
 /// The partial rebuild: the undetermined disks, and the stripe afterwards.
-pub fn partial_rebuild(card: &[u8], strip_len: usize, lost: u32, stripe: &[u8]) -> Result<(u32, Vec<u8>), Refusal> {
+pub fn partial_rebuild(card: &Card, strip_len: usize, lost: u32, stripe: &[u8]) -> Result<(u32, Vec<u8>), Refusal> {
     check(&outline(card)?, strip_len, lost, stripe.len())?;
     let code = code(card)?;
     let undetermined = verdict(&code, lost)?;

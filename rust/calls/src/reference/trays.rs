@@ -1,6 +1,6 @@
 //! Document 02, request [1]: quick repair, step by step, as it says.
 
-use super::{outline, refusal, strips, Code, Refusal};
+use super::{outline, refusal, strips, Card, Code, Refusal};
 
 /// The members of parity disk k + j's check: it and its data disks.
 fn check(code: &Code, j: usize) -> Vec<usize> {
@@ -20,7 +20,7 @@ fn step(code: &Code, lost: u32) -> Option<(usize, Vec<usize>)> {
 
 /// Quick repair: the steps made, what is left of each set, and the tray afterwards.
 pub fn quick_repair(
-    card: &[u8],
+    card: &Card,
     strip_len: usize,
     sets: &[u32],
     budget: usize,

@@ -1,6 +1,6 @@
 //! Document 02, request [4]: one strip rewritten, byte by byte, as it says.
 
-use super::{outline, refusal, strips, Code, Refusal};
+use super::{outline, refusal, strips, Card, Code, Refusal};
 
 /// Whether the new strip of a data disk has to do with this disk: the disk itself, or a parity disk whose column names it.
 fn changes(code: &Code, disk: usize, other: usize) -> bool {
@@ -9,7 +9,7 @@ fn changes(code: &Code, disk: usize, other: usize) -> bool {
 
 /// The update: how many disks it has to do with, and the stripe afterwards.
 pub fn update(
-    card: &[u8],
+    card: &Card,
     strip_len: usize,
     stripe: &[u8],
     disk: usize,

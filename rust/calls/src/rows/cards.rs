@@ -1,64 +1,100 @@
-//! The calls on cards alone.
+//! The card reader and the card writer.
 
-use super::{card_faults, card_then, ways};
-use crate::cards::{any_card, any_columns, c1, card_of, every_card, repeated_columns};
+use super::{c1_of, card_then, ways};
+use crate::cards::{any_card, any_columns, card_of, every_card};
 use crate::choice::Choice;
+use crate::editions::{any_wears, with_wears, worn, EDITIONS};
 use crate::input::{bytes_of, code, Input, Told};
-use crate::reference;
+use crate::reference::{self, Card, Edition, Said};
 use crate::table::{Fault, Row};
 use bridgecrumb::ffi;
 
-fn of_card(card: Vec<u8>) -> Input {
+fn of_card(card: Card) -> Input {
     Input { card, ..Input::default() }
 }
 
 pub const READ: Row = Row {
     name: "card_read",
+    editions: &EDITIONS,
     any: |choice| of_card(any_card(choice, 16)),
     every: every_read,
-    good: || of_card(c1()),
-    faults: || card_then([]),
+    good: |edition| of_card(c1_of(edition)),
+    faults: |edition| card_then(edition, []),
     heavy: |_| false,
     engine: |input, lent| {
-        let (card, card_len) = lent.read(&input.card);
+        let (second, card, card_len) = lent.card(&input.card);
         let (counts, _) = lent.output(2);
         let (columns, _) = lent.output(16);
+        let (wears, _) = lent.output(32);
         // SAFETY: each buffer is as long as is said
-        unsafe { ffi::bridgecrumb_card_read(card, card_len, counts, columns) }
+        unsafe { ffi::bridgecrumb_card_read(second, card, card_len, counts, columns, wears) }
     },
     safe: |input, lent| {
-        let card = lent.slice(&input.card);
-        let (counts, columns) = (lent.output_slice(2), lent.output_slice(16));
-        code(bridgecrumb::read_card(card).map(|card| {
+        let (edition, card) = lent.named_card(&input.card);
+        let (counts, columns, wears) = (lent.output_slice(2), lent.output_slice(16), lent.output_slice(32));
+        code(bridgecrumb::read_card(edition, card).map(|card| {
             counts.copy_from_slice(&[card.k, card.m]);
             columns.copy_from_slice(&card.columns);
+            wears.copy_from_slice(&card.wears);
             0
         }))
     },
     reference: |input| {
-        Told::of(reference::read_card(&input.card).map(|(k, m, mut columns)| {
+        Told::of(reference::read_card(&input.card).map(|Said { k, m, mut columns, mut wears }| {
             columns.resize(16, 0);
-            (0, vec![bytes_of(&[k, m], usize::to_le_bytes), bytes_of(&columns, u16::to_le_bytes)])
+            wears.resize(32, 0);
+            (0, vec![bytes_of(&[k, m], usize::to_le_bytes), bytes_of(&columns, u16::to_le_bytes), wears])
         }))
     },
 };
 
-/// The cards and each of their columns wrong; of no disks, all first two bytes, alone and before columns.
-fn every_read(n: usize, _: &mut Choice, then: &mut dyn FnMut(&Input)) {
-    for card in every_card(n) {
-        for at in (2..card.len()).step_by(2) {
-            for wrong in [0, 1 << card[0], 1 << 15] {
-                let mut card = card.clone();
-                card[at..at + 2].copy_from_slice(&u16::to_le_bytes(wrong));
-                then(&of_card(card));
-            }
+/// The cards of both editions, each of their columns wrong and each of their wears 0, alone and together, and named as of the other edition; of no
+/// disks, all first bytes.
+fn every_read(n: usize, choice: &mut Choice, then: &mut dyn FnMut(&Input)) {
+    for first in every_card(n) {
+        let second = worn(choice, &first);
+        then(&of_card(Card::second(first.bytes.clone())));
+        then(&of_card(Card::first(second.bytes.clone())));
+        every_wrong_column(&first, then);
+        every_wrong_column(&second, then);
+        for at in second.len() - n..second.len() {
+            let mut zero = second.clone();
+            zero[at] = 0;
+            every_wrong_column(&zero, then);
         }
-        then(&of_card(card));
     }
     if n == 0 {
-        (0..=255).for_each(|byte| then(&of_card(vec![byte])));
-        every_two_bytes(&mut |k, m, columns| then(&of_card(card_of(k, m, columns))));
+        every_first_bytes(then);
     }
+}
+
+/// The card, and each of its columns 0 and with a data disk that the code lacks.
+fn every_wrong_column(card: &Card, then: &mut dyn FnMut(&Input)) {
+    then(&of_card(card.clone()));
+    let at_k = usize::from(card.edition.is_second());
+    let (k, m) = (card[at_k], usize::from(card[at_k + 1]));
+    for at in (0..m).map(|j| at_k + 2 + 2 * j) {
+        for wrong in [0, 1 << k, 1 << 15] {
+            let mut card = card.clone();
+            card[at..at + 2].copy_from_slice(&u16::to_le_bytes(wrong));
+            then(&of_card(card));
+        }
+    }
+}
+
+/// One byte, k and m, and these before columns, in both editions; each first byte of edition 2 before nothing, before good ones and before bad ones.
+fn every_first_bytes(then: &mut dyn FnMut(&Input)) {
+    for byte in 0..=255 {
+        then(&of_card(Card::first(vec![byte])));
+        for bytes in [vec![], vec![4], vec![4, 3], vec![0, 0], vec![17, 0, 1], c1_of(Edition::Second)[1..].to_vec()] {
+            then(&of_card(Card::second([vec![byte], bytes].concat())));
+        }
+    }
+    every_two_bytes(&mut |k, m, columns| {
+        let card = card_of(k, m, columns);
+        then(&of_card(with_wears(&card, &vec![1; (k + m).min(40)])));
+        then(&of_card(card));
+    });
 }
 
 fn every_two_bytes(then: &mut dyn FnMut(usize, usize, &[u16])) {
@@ -69,39 +105,72 @@ fn every_two_bytes(then: &mut dyn FnMut(usize, usize, &[u16])) {
     }
 }
 
+/// How many wears the writer wants, and how long the card is.
+fn lengths(edition: Edition, k: usize, m: usize) -> (usize, usize) {
+    match edition {
+        Edition::First => (0, 2 + 2 * m),
+        Edition::Second => (k + m, 3 + 2 * m + (k + m)),
+    }
+}
+
+/// What is to be written, with as many wears as this edition wants and a buffer that fits.
+fn to_write(edition: Edition, k: usize, m: usize, columns: Vec<u16>, wears: &[u8]) -> Input {
+    let (count, out_len) = lengths(edition, k, m);
+    let card = Card { edition, bytes: Vec::new() };
+    Input { card, k, m, columns, wears: wears[..count].to_vec(), out_len, ..Input::default() }
+}
+
 pub const WRITE: Row = Row {
     name: "card_write",
+    editions: &EDITIONS,
     any: any_write,
     every: every_write,
-    good: || Input { k: 4, m: 3, columns: vec![7, 11, 13], out_len: 8, ..Input::default() },
-    faults: || {
-        let [data, parity] = count_faults();
-        vec![
-            data,
-            parity,
-            ways(4, vec![0, 2, 4, 3 + 256], |input, &len| input.columns.resize(len, 1)),
-            ways(5, vec![0, 16, 0x8000], |input, &column| input.columns[0] = column),
-            ways(5 + 256, vec![0, 16], |input, &column| input.columns[1..].fill(column)),
-            ways(5 + 512, vec![0xffff], |input, &column| input.columns[2] = column),
-            ways(7, vec![0, 7, 9, 8 + 256], |input, &len| input.out_len = len),
-        ]
-    },
+    good: |edition| to_write(edition, 4, 3, vec![7, 11, 13], &[3, 1, 4, 2, 5, 9, 6]),
+    faults: write_faults,
     heavy: |_| false,
     engine: |input, lent| {
+        let (second, k, m) = (input.card.edition.is_second(), input.k, input.m);
         let (columns, columns_len) = lent.read(&input.columns);
+        let (wears, wears_len) = lent.read(&input.wears);
         let (out, out_len) = lent.output(input.out_len);
         // SAFETY: each buffer is as long as is said
-        unsafe { ffi::bridgecrumb_card_write(input.k, input.m, columns, columns_len, out, out_len) }
+        unsafe { ffi::bridgecrumb_card_write(second, k, m, columns, columns_len, wears, wears_len, out, out_len) }
     },
     safe: |input, lent| {
-        let columns = lent.slice(&input.columns);
-        code(bridgecrumb::write_card(input.k, input.m, columns, lent.output_slice(input.out_len)).map(|()| 0))
+        let (columns, wears) = (lent.slice(&input.columns), lent.slice(&input.wears));
+        let (edition, out) = (input.card.edition.named(), lent.output_slice(input.out_len));
+        code(bridgecrumb::write_card(edition, input.k, input.m, columns, wears, out).map(|()| 0))
     },
     reference: |input| {
-        let card = reference::write_card(input.k, input.m, &input.columns, input.out_len);
+        let Input { k, m, columns, wears, .. } = input.clone();
+        let card = reference::write_card(input.card.edition, &Said { k, m, columns, wears }, input.out_len);
         Told::of(card.map(|card| (0, vec![card])))
     },
 };
+
+/// Refusals 2, 3, 4, 5, 23 and 7; edition 1 has no 23, since any wear is one too many.
+fn write_faults(edition: Edition) -> Vec<Vec<Fault>> {
+    let (count, len) = lengths(edition, 4, 3);
+    let [data, parity] = count_faults();
+    let mut other_len = ways(4, vec![0, 2, 4, 3 + 256], |input, &len| input.columns.resize(len, 1));
+    let counts = [0, 1, 6, 7, 8, 7 + 256].into_iter().filter(|&wears| wears != count).collect();
+    other_len.extend(ways(4, counts, |input, &len| input.wears.resize(len, 1)));
+    let mut faults = vec![
+        data,
+        parity,
+        other_len,
+        ways(5, vec![0, 16, 0x8000], |input, &column| input.columns[0] = column),
+        ways(5 + 256, vec![0, 16], |input, &column| input.columns[1..].fill(column)),
+        ways(5 + 512, vec![0xffff], |input, &column| input.columns[2] = column),
+    ];
+    if edition == Edition::Second {
+        faults.push(ways(23, vec![0..1, 6..7, 0..7], |input, disks| input.wears[disks.clone()].fill(0)));
+    }
+    // 8 and 16 are the lengths of the two editions
+    let lens = [0, 7, 8, 9, 15, 16, 17, 8 + 256, 16 + 256].into_iter().filter(|&other| other != len).collect();
+    faults.push(ways(7, lens, |input, &len| input.out_len = len));
+    faults
+}
 
 /// Refusals 2 and 3; the right number is 3 or 4, and twice some of these are small in 64 bits.
 pub fn count_faults() -> [Vec<Fault>; 2] {
@@ -119,6 +188,7 @@ pub fn any_count(choice: &mut Choice) -> usize {
 }
 
 fn any_write(choice: &mut Choice) -> Input {
+    let edition = choice.pick(&EDITIONS);
     let (k, m) = (any_count(choice), any_count(choice));
     let (right_k, right_m) = (k.clamp(1, 16), m.clamp(1, 16));
     let mut columns = any_columns(choice, right_k, right_m);
@@ -127,50 +197,56 @@ fn any_write(choice: &mut Choice) -> Input {
         columns[at] = choice.pick(&[0, (1u32 << right_k) as u16, 1 << 15, 0xffff]);
     }
     columns.resize(choice.length(right_m), 1);
-    Input { k, m, columns, out_len: choice.length(2 + 2 * right_m), ..Input::default() }
+    let mut wears = any_wears(choice, right_k + right_m);
+    if choice.one_in(6) {
+        let at = choice.below(wears.len());
+        wears[at] = 0;
+    }
+    let mut input = to_write(edition, right_k, right_m, columns, &wears);
+    (input.k, input.m) = (k, m);
+    input.wears.resize(choice.length(input.wears.len()), 1);
+    input.out_len = choice.length(input.out_len);
+    input
 }
 
-fn every_write(n: usize, _: &mut Choice, then: &mut dyn FnMut(&Input)) {
+/// Every card in both editions: each length of the buffer, each column wrong, each wear 0, each number of wears; of no disks, all k and m.
+fn every_write(n: usize, choice: &mut Choice, then: &mut dyn FnMut(&Input)) {
     for card in every_card(n) {
-        let (k, m, columns) = reference::read_card(&card).expect("a good card");
-        for out_len in 0..card.len() + 3 {
-            then(&Input { k, m, columns: columns.clone(), out_len, ..Input::default() });
-        }
-        for j in 0..m {
-            for wrong in [0, 1 << k, 1 << 15] {
-                let mut columns = columns.clone();
-                columns[j] = wrong;
-                then(&Input { k, m, columns, out_len: card.len(), ..Input::default() });
+        let Said { k, m, columns, .. } = reference::read_card(&card).expect("a good card");
+        for edition in EDITIONS {
+            let good = to_write(edition, k, m, columns.clone(), &any_wears(choice, n));
+            (0..good.out_len + 3).for_each(|out_len| then(&Input { out_len, ..good.clone() }));
+            for (j, wrong) in (0..m).flat_map(|j| [(j, 0), (j, 1 << k), (j, 1 << 15)]) {
+                let mut input = good.clone();
+                input.columns[j] = wrong;
+                then(&input);
             }
+            for disk in 0..good.wears.len() {
+                let mut input = good.clone();
+                input.wears[disk] = 0;
+                then(&input);
+            }
+            (0..n + 2).for_each(|wears| then(&Input { wears: vec![1; wears], ..good.clone() }));
         }
     }
     if n == 0 {
         every_two_bytes(&mut |k, m, columns| {
-            then(&Input { k, m, columns: columns.to_vec(), out_len: 2 + 2 * columns.len(), ..Input::default() })
+            for edition in EDITIONS {
+                let right = to_write(edition, k, m, columns.to_vec(), &[1; 2 * 255]);
+                then(&Input { out_len: lengths(edition, k, columns.len()).1, ..right });
+            }
         });
     }
 }
 
-pub const ALIKE: Row = Row {
-    name: "alike",
-    any: any_two,
-    every: every_two,
-    good: || Input { card: c1(), second: c1(), ..Input::default() },
-    faults: || card_then(card_faults(|input| &mut input.second)),
-    heavy: |_| false,
-    engine: |input, lent| {
-        let (first, first_len) = lent.read(&input.card);
-        let (second, second_len) = lent.read(&input.second);
-        // SAFETY: each buffer is as long as is said
-        unsafe { ffi::bridgecrumb_alike(first, first_len, second, second_len) }
-    },
-    safe: |input, lent| code(bridgecrumb::alike(lent.slice(&input.card), lent.slice(&input.second)).map(usize::from)),
-    reference: |input| Told::of(reference::alike(&input.card, &input.second).map(|alike| (alike.into(), Vec::new()))),
-};
-
 /// Whether it takes long to go through all data words.
-pub fn large(card: &[u8]) -> bool {
-    matches!(card.first(), Some(11..=16))
+pub fn large(card: &Card) -> bool {
+    matches!(card.code_bytes().first(), Some(11..=16))
+}
+
+/// Whether it takes long to go through all sets of parity disks.
+pub fn many_parities(card: &Card) -> bool {
+    matches!(card.code_bytes().get(1), Some(11..=16))
 }
 
 /// The most data disks of a card whose data words are gone through.
@@ -179,97 +255,5 @@ pub fn most_k(choice: &Choice) -> usize {
         16
     } else {
         10
-    }
-}
-
-/// Any card, or one whose columns repeat, and mostly a second one that is made of it.
-fn any_two(choice: &mut Choice) -> Input {
-    let card = if choice.one_in(3) {
-        let (k, m) = (1 + choice.below(16), 1 + choice.below(16));
-        card_of(k, m, &repeated_columns(choice, k, m))
-    } else {
-        any_card(choice, 16)
-    };
-    let second = if choice.one_in(6) { any_card(choice, 16) } else { second(choice, &card) };
-    Input { card, second, ..Input::default() }
-}
-
-/// The first card's columns, mostly in another order, which is alike; or changed after that, and then mostly not alike. Any card where the first
-/// is refused.
-fn second(choice: &mut Choice, first: &[u8]) -> Vec<u8> {
-    let (mut k, m, mut columns) = match reference::read_card(first) {
-        Ok(read) => read,
-        Err(_) => return any_card(choice, 6),
-    };
-    if !choice.one_in(4) {
-        (1..m).for_each(|at| columns.swap(at, choice.below(at + 1)));
-    }
-    match choice.below(16) {
-        0 | 1 => other_multiplicities(choice, &mut columns),
-        2 | 3 => other_column(choice, k, &mut columns),
-        4 | 5 => exchange_disks(choice, &mut columns),
-        6 | 7 => renumber_data(choice, k, &mut columns),
-        8 => k = choice.pick(&[k - 1, k + 1, 16]),
-        9 => columns.truncate(m - 1),
-        10 => columns.push(columns[0]),
-        11 => {
-            let mut card = card_of(k, m, &columns);
-            card[choice.below(2 + 2 * m)] ^= choice.byte();
-            return card;
-        }
-        _ => {}
-    }
-    card_of(k, columns.len(), &columns)
-}
-
-/// A column that stands more than once gives way to any of them: the same columns, and not as often each.
-fn other_multiplicities(choice: &mut Choice, columns: &mut [u16]) {
-    if let Some(again) = (1..columns.len()).find(|&j| columns[..j].contains(&columns[j])) {
-        columns[again] = choice.pick(columns);
-    }
-}
-
-/// One column has one or two data disks more or less, unless nothing is left.
-fn other_column(choice: &mut Choice, k: usize, columns: &mut [u16]) {
-    let at = choice.below(columns.len());
-    let changed = columns[at] ^ (1 << choice.below(k) | 1 << choice.below(k));
-    if changed != 0 {
-        columns[at] = changed;
-    }
-}
-
-/// Two columns exchange some of their data disks, unless nothing is left of one: the sum and the XOR of all columns stay.
-fn exchange_disks(choice: &mut Choice, columns: &mut [u16]) {
-    let (one, other) = (choice.below(columns.len()), choice.below(columns.len()));
-    let some = (columns[one] ^ columns[other]) & choice.below(0x10000) as u16;
-    if columns[one] != some && columns[other] != some {
-        columns[one] ^= some;
-        columns[other] ^= some;
-    }
-}
-
-/// Data disks in another order: the vectors stay equal.
-fn renumber_data(choice: &mut Choice, k: usize, columns: &mut [u16]) {
-    for _ in 0..1 + choice.below(3) {
-        let (one, other) = (choice.below(k), choice.below(k));
-        for column in columns.iter_mut() {
-            let differ = (*column >> one ^ *column >> other) & 1;
-            *column ^= differ << one ^ differ << other;
-        }
-    }
-}
-
-/// Every two cards of up to 6 disks.
-fn every_two(n: usize, _: &mut Choice, then: &mut dyn FnMut(&Input)) {
-    if n > 6 {
-        return;
-    }
-    let others: Vec<Vec<u8>> = (2..=6).flat_map(every_card).collect();
-    for card in every_card(n) {
-        let mut input = Input { card, ..Input::default() };
-        for other in &others {
-            input.second.clone_from(other);
-            then(&input);
-        }
     }
 }

@@ -5,14 +5,15 @@ use super::{card_then, disk_faults, set_faults, strip_len_faults, stripe_faults,
 use crate::cards::{any_card, any_disk, any_set, disks_of, every_card};
 use crate::choice::Choice;
 use crate::input::{bytes_of, code, Input, Told};
-use crate::records::{any_file, every_damage, other_counts, put, small_records};
-use crate::reference::records;
+use crate::records::{any_file, every_damage, other_counts, other_editions, put, small_records};
+use crate::reference::{records, Card, Edition};
 use crate::stripes::{any_strip_len, any_stripe};
 use crate::table::{Fault, Row};
 use bridgecrumb::ffi;
 
 pub const WRITE: Row = Row {
     name: "record_write",
+    editions: &[Edition::First],
     any: |choice| {
         let card = any_card(choice, 16);
         let strip_len = any_strip_len(choice);
@@ -22,10 +23,10 @@ pub const WRITE: Row = Row {
         Input { card, strip_len, set, stripe, out_len, ..Input::default() }
     },
     every: every_write,
-    good: || Input { set: 0x24, out_len: 113, ..good_stripe() },
-    faults: || {
+    good: |edition| Input { set: 0x24, out_len: 113, ..good_stripe(edition) },
+    faults: |edition| {
         let short = ways(16, vec![112, 98, 97, 0], |input, &len| input.out_len = len);
-        card_then([strip_len_faults(), set_faults(), stripe_faults(), short])
+        card_then(edition, [strip_len_faults(), set_faults(), stripe_faults(), short])
     },
     heavy: long,
     engine: |input, lent| {
@@ -48,7 +49,7 @@ pub const WRITE: Row = Row {
 };
 
 /// The length that the record of a card should have.
-fn record_len(card: &[u8], strip_len: usize, lost: u32) -> usize {
+fn record_len(card: &Card, strip_len: usize, lost: u32) -> usize {
     let n = disks_of(card);
     let there = (0..n).filter(|disk| lost >> disk & 1 == 0).count();
     10 + 10 * (n + 1) + card.len().min(34) + there * strip_len
@@ -74,10 +75,11 @@ fn every_write(n: usize, choice: &mut Choice, then: &mut dyn FnMut(&Input)) {
 
 pub const READ: Row = Row {
     name: "record_read",
+    editions: &[Edition::First],
     any: any_file,
     every: |n, choice, then| every_file(n, choice, &mut |input| then(input)),
-    good: good_file,
-    faults: file_faults,
+    good: |_| good_file(),
+    faults: |_| file_faults(),
     heavy: |_| false,
     engine: |input, lent| {
         let (file, file_len) = lent.read_closed(&input.file, input.closed);
@@ -106,6 +108,7 @@ pub const READ: Row = Row {
 
 pub const BODY: Row = Row {
     name: "record_body",
+    editions: &[Edition::First],
     any: |choice| {
         let input = any_file(choice);
         // where the contents say how many disks there are, one of them
@@ -123,8 +126,8 @@ pub const BODY: Row = Row {
             }
         })
     },
-    good: good_file,
-    faults: || {
+    good: |_| good_file(),
+    faults: |_| {
         let mut faults = file_faults();
         faults.push(disk_faults());
         faults.push(ways(16, vec![2, 5], |input, &disk| input.disk = disk));
@@ -151,7 +154,7 @@ pub const BODY: Row = Row {
     },
 };
 
-/// Every damage of the small records, and of no disks, files with other numbers of entries.
+/// Every damage of the small records, and of no disks, files with other numbers of entries and with cards of edition 2.
 fn every_file(n: usize, choice: &mut Choice, then: &mut dyn FnMut(&mut Input)) {
     let mut input = Input::default();
     let mut then = |file: &[u8]| {
@@ -164,12 +167,13 @@ fn every_file(n: usize, choice: &mut Choice, then: &mut dyn FnMut(&mut Input)) {
     }
     if n == 0 {
         other_counts(choice, &mut then);
+        other_editions(choice, &mut then);
     }
 }
 
 /// C1, strips of 3 bytes, disks 2 and 5 lost: the card stands at 90, the strips at 98, the end is 113.
 fn good_file() -> Input {
-    let stripe = good_stripe();
+    let stripe = good_stripe(Edition::First);
     let file = records::write(&stripe.card, 3, 0x24, &stripe.stripe, usize::MAX).expect("a record of C1");
     Input { file, ..Input::default() }
 }

@@ -4,7 +4,7 @@ use super::cards::{any_count, count_faults};
 use super::ways;
 use crate::choice::Choice;
 use crate::input::{code, Input, Told};
-use crate::reference::stepped;
+use crate::reference::{stepped, Edition};
 use crate::table::Row;
 use bridgecrumb::ffi;
 
@@ -14,10 +14,11 @@ fn of_numbers(distance: usize, m: usize, k: usize, out_len: usize) -> Input {
 
 pub const STEPPED: Row = Row {
     name: "card_stepped",
+    editions: &[Edition::First],
     any: any_stepped,
     every: every_stepped,
-    good: || of_numbers(3, 3, 4, 8),
-    faults: || {
+    good: |_| of_numbers(3, 3, 4, 8),
+    faults: |_| {
         let distances = vec![0, 1, 2, 5, 6, 7, 256 + 3, 65536 + 4, 1 << 32, 1 << 32 | 3, 1 << 63 | 4, usize::MAX];
         // the distance, m and k
         let bounds =

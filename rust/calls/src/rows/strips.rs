@@ -1,11 +1,12 @@
 //! The calls on stripes.
 
 use super::cards::{large, most_k};
-use super::{card_then, set_faults, strip_len_faults, stripe_faults, ways};
+use super::{c1_of, card_then, set_faults, strip_len_faults, stripe_faults, ways};
 use crate::cards::{any_card, any_loss, any_set, c1, disks_of, every_card};
 use crate::choice::Choice;
+use crate::editions::EDITIONS;
 use crate::input::{code, Input, Told};
-use crate::reference::{outline, strips};
+use crate::reference::{outline, strips, Edition};
 use crate::stripes::{any_strip_len, any_stripe, any_stripe_len, lose, COMMON_LEN};
 use crate::table::Row;
 use bridgecrumb::ffi;
@@ -14,10 +15,10 @@ use bridgecrumb::ffi;
 pub const DISKS: usize = 6;
 
 /// An encoded stripe of C1 with strips of 3 bytes.
-pub fn good_stripe() -> Input {
+pub fn good_stripe(edition: Edition) -> Input {
     let content: Vec<u8> = (0..21).map(|t| t * 11).collect();
     let stripe = strips::encode(&c1(), 3, &content).expect("a stripe of C1");
-    Input { card: c1(), strip_len: 3, stripe, ..Input::default() }
+    Input { card: c1_of(edition), strip_len: 3, stripe, ..Input::default() }
 }
 
 pub fn long(input: &Input) -> bool {
@@ -26,6 +27,7 @@ pub fn long(input: &Input) -> bool {
 
 pub const ENCODE: Row = Row {
     name: "encode",
+    editions: &EDITIONS,
     any: |choice| {
         let card = any_card(choice, 16);
         let strip_len = any_strip_len(choice);
@@ -43,17 +45,17 @@ pub const ENCODE: Row = Row {
         }
     },
     good: good_stripe,
-    faults: || card_then([strip_len_faults(), stripe_faults()]),
+    faults: |edition| card_then(edition, [strip_len_faults(), stripe_faults()]),
     heavy: long,
     engine: |input, lent| {
-        let (card, card_len) = lent.read(&input.card);
+        let (second, card, card_len) = lent.card(&input.card);
         let (stripe, stripe_len) = lent.write(&input.stripe);
         // SAFETY: each buffer is as long as is said
-        unsafe { ffi::bridgecrumb_encode(card, card_len, input.strip_len, stripe, stripe_len) }
+        unsafe { ffi::bridgecrumb_encode(second, card, card_len, input.strip_len, stripe, stripe_len) }
     },
     safe: |input, lent| {
-        let card = lent.slice(&input.card);
-        code(bridgecrumb::encode(card, input.strip_len, lent.slice_mut(&input.stripe)).map(|()| 0))
+        let (edition, card) = lent.named_card(&input.card);
+        code(bridgecrumb::encode(edition, card, input.strip_len, lent.slice_mut(&input.stripe)).map(|()| 0))
     },
     reference: |input| {
         let after = strips::encode(&input.card, input.strip_len, &input.stripe);
@@ -63,6 +65,7 @@ pub const ENCODE: Row = Row {
 
 pub const REBUILD: Row = Row {
     name: "rebuild",
+    editions: &EDITIONS,
     any: |choice| {
         let card = any_card(choice, most_k(choice));
         let strip_len = any_strip_len(choice);
@@ -70,22 +73,22 @@ pub const REBUILD: Row = Row {
         Input { stripe: any_stripe(choice, &card, strip_len, set), card, strip_len, set, ..Input::default() }
     },
     every: every_rebuild,
-    good: || Input { set: 1, ..good_stripe() },
-    faults: || {
+    good: |edition| Input { set: 1, ..good_stripe(edition) },
+    faults: |edition| {
         let fatal = ways(11, vec![14, 0x7f], |input, &set| input.set = set);
         let spoiled = ways(12, vec![9, 20], |input, &at: &usize| input.stripe[at] ^= 1);
-        card_then([strip_len_faults(), set_faults(), stripe_faults(), fatal, spoiled])
+        card_then(edition, [strip_len_faults(), set_faults(), stripe_faults(), fatal, spoiled])
     },
     heavy: |input| large(&input.card) || long(input),
     engine: |input, lent| {
-        let (card, card_len) = lent.read(&input.card);
+        let (second, card, card_len) = lent.card(&input.card);
         let (stripe, stripe_len) = lent.write(&input.stripe);
         // SAFETY: each buffer is as long as is said
-        unsafe { ffi::bridgecrumb_rebuild(card, card_len, input.strip_len, input.set, stripe, stripe_len) }
+        unsafe { ffi::bridgecrumb_rebuild(second, card, card_len, input.strip_len, input.set, stripe, stripe_len) }
     },
     safe: |input, lent| {
-        let card = lent.slice(&input.card);
-        code(bridgecrumb::rebuild(card, input.strip_len, input.set, lent.slice_mut(&input.stripe)))
+        let (edition, card) = lent.named_card(&input.card);
+        code(bridgecrumb::rebuild(edition, card, input.strip_len, input.set, lent.slice_mut(&input.stripe)))
     },
     reference: |input| {
         let after = strips::rebuild(&input.card, input.strip_len, input.set, &input.stripe);
@@ -95,6 +98,7 @@ pub const REBUILD: Row = Row {
 
 pub const PARTIAL_REBUILD: Row = Row {
     name: "partial_rebuild",
+    editions: &EDITIONS,
     any: |choice| {
         let card = any_card(choice, most_k(choice));
         let strip_len = any_strip_len(choice);
@@ -102,30 +106,32 @@ pub const PARTIAL_REBUILD: Row = Row {
         Input { stripe: any_stripe(choice, &card, strip_len, set), card, strip_len, set, ..Input::default() }
     },
     every: every_rebuild,
-    good: || {
+    good: |edition| {
         // disk 0 is restored and disks 1 to 3 are not; it has other bytes, so that a call that restores before it refuses is seen
-        let mut good = Input { set: 15, ..good_stripe() };
+        let mut good = Input { set: 15, ..good_stripe(edition) };
         good.stripe[..3].iter_mut().for_each(|byte| *byte ^= 0x5a);
         good
     },
-    faults: || {
+    faults: |edition| {
         // of losses that are not fatal and of fatal ones
         let spoiled = ways(12, vec![(1, 9), (1, 20), (37, 9), (37, 20)], |input, &(set, at): &(u32, usize)| {
             input.set = set;
             input.stripe[at] ^= 1;
         });
-        card_then([strip_len_faults(), set_faults(), stripe_faults(), spoiled])
+        card_then(edition, [strip_len_faults(), set_faults(), stripe_faults(), spoiled])
     },
     heavy: |input| large(&input.card) || long(input),
     engine: |input, lent| {
-        let (card, card_len) = lent.read(&input.card);
+        let (second, card, card_len) = lent.card(&input.card);
         let (stripe, stripe_len) = lent.write(&input.stripe);
         // SAFETY: each buffer is as long as is said
-        unsafe { ffi::bridgecrumb_partial_rebuild(card, card_len, input.strip_len, input.set, stripe, stripe_len) }
+        unsafe {
+            ffi::bridgecrumb_partial_rebuild(second, card, card_len, input.strip_len, input.set, stripe, stripe_len)
+        }
     },
     safe: |input, lent| {
-        let card = lent.slice(&input.card);
-        let left = bridgecrumb::partial_rebuild(card, input.strip_len, input.set, lent.slice_mut(&input.stripe));
+        let ((edition, card), stripe) = (lent.named_card(&input.card), lent.slice_mut(&input.stripe));
+        let left = bridgecrumb::partial_rebuild(edition, card, input.strip_len, input.set, stripe);
         code(left.map(|set| set as usize))
     },
     reference: |input| {

@@ -4,6 +4,7 @@ use super::strips::{good_stripe, long};
 use super::{card_then, length_faults, strip_len_faults, ways};
 use crate::cards::{any_card, any_set, disks_of, every_card};
 use crate::choice::Choice;
+use crate::editions::EDITIONS;
 use crate::input::{bytes_of, code, Input, Told};
 use crate::reference::{outline, strips, trays};
 use crate::stripes::{any_strip_len, lose, stripe_of};
@@ -12,35 +13,38 @@ use bridgecrumb::ffi;
 
 pub const QUICK_REPAIR: Row = Row {
     name: "quick_repair",
+    editions: &EDITIONS,
     any: any_tray,
     every: every_tray,
-    good: || {
+    good: |edition| {
         // what is lost has other bytes, so that a call that mends before it refuses is seen
-        let stripe = good_stripe();
+        let stripe = good_stripe(edition);
         let mut tray = stripe.stripe.repeat(3);
         [0, 3, 42, 54, 57].iter().for_each(|&at| tray[at] ^= 0x5a);
         Input { sets: vec![3, 0, 49], budget: 5, stripe: tray, ..stripe }
     },
-    faults: || {
+    faults: |edition| {
         let counts = ways(17, vec![0, 9, 256 + 3], |input, &count| input.sets.resize(count, 1));
         let wrong: Vec<(usize, u32)> = vec![(2, 1 << 7), (2, 1 << 31), (0, !0)];
         let outside = ways(8, wrong, |input, &(at, disks)| input.sets[at] |= disks);
-        card_then([strip_len_faults(), counts, outside, length_faults(vec![-1, 1, -21, 21, -63])])
+        card_then(edition, [strip_len_faults(), counts, outside, length_faults(vec![-1, 1, -21, 21, -63])])
     },
     heavy: long,
     engine: |input, lent| {
-        let (card, card_len) = lent.read(&input.card);
+        let (second, card, card_len) = lent.card(&input.card);
         let (sets, count) = lent.read(&input.sets);
         let (tray, tray_len) = lent.write(&input.stripe);
         let (left, _) = lent.output(8);
         let (strip_len, budget) = (input.strip_len, input.budget);
         // SAFETY: each buffer is as long as is said
-        unsafe { ffi::bridgecrumb_quick_repair(card, card_len, strip_len, sets, count, budget, tray, tray_len, left) }
+        unsafe {
+            ffi::bridgecrumb_quick_repair(second, card, card_len, strip_len, sets, count, budget, tray, tray_len, left)
+        }
     },
     safe: |input, lent| {
-        let (card, sets) = (lent.slice(&input.card), lent.slice(&input.sets));
+        let ((edition, card), sets) = (lent.named_card(&input.card), lent.slice(&input.sets));
         let (tray, left) = (lent.slice_mut(&input.stripe), lent.output_slice(8));
-        code(bridgecrumb::quick_repair(card, input.strip_len, sets, input.budget, tray).map(|repair| {
+        code(bridgecrumb::quick_repair(edition, card, input.strip_len, sets, input.budget, tray).map(|repair| {
             left.copy_from_slice(&repair.left);
             repair.steps
         }))

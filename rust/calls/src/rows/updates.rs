@@ -4,34 +4,37 @@ use super::strips::{good_stripe, long, DISKS};
 use super::{card_then, disk_faults, strip_len_faults, stripe_faults, ways};
 use crate::cards::{any_card, any_disk, card_naming, disks_of, every_card};
 use crate::choice::Choice;
+use crate::editions::{of_any_edition, EDITIONS};
 use crate::input::{code, Input, Told};
-use crate::reference::{outline, read_card, strips, updates};
+use crate::reference::{outline, read_card, strips, updates, Card};
 use crate::stripes::{any_strip_len, any_stripe};
 use crate::table::Row;
 use bridgecrumb::ffi;
 
 pub const UPDATE: Row = Row {
     name: "update",
+    editions: &EDITIONS,
     any: any_update,
     every: every_update,
-    good: || Input { disk: 2, new_strip: vec![0x5a, 0xa5, 0x3c], ..good_stripe() },
-    faults: || {
+    good: |edition| Input { disk: 2, new_strip: vec![0x5a, 0xa5, 0x3c], ..good_stripe(edition) },
+    faults: |edition| {
         let parity = ways(18, vec![4, 5, 6], |input, &disk| input.disk = disk);
         let new_lens = ways(19, vec![2, 4, 0, 21, 256 + 3], |input, &len| input.new_strip.resize(len, 0x5a));
-        card_then([strip_len_faults(), disk_faults(), parity, stripe_faults(), new_lens])
+        card_then(edition, [strip_len_faults(), disk_faults(), parity, stripe_faults(), new_lens])
     },
     heavy: long,
     engine: |input, lent| {
-        let (card, card_len) = lent.read(&input.card);
+        let (second, card, card_len) = lent.card(&input.card);
         let (stripe, stripe_len) = lent.write(&input.stripe);
         let (new, new_len) = lent.read(&input.new_strip);
         let (strip_len, disk) = (input.strip_len, input.disk);
         // SAFETY: each buffer is as long as is said
-        unsafe { ffi::bridgecrumb_update(card, card_len, strip_len, stripe, stripe_len, disk, new, new_len) }
+        unsafe { ffi::bridgecrumb_update(second, card, card_len, strip_len, stripe, stripe_len, disk, new, new_len) }
     },
     safe: |input, lent| {
-        let (card, stripe) = (lent.slice(&input.card), lent.slice_mut(&input.stripe));
-        code(bridgecrumb::update(card, input.strip_len, stripe, input.disk, lent.slice(&input.new_strip)))
+        let ((edition, card), stripe) = (lent.named_card(&input.card), lent.slice_mut(&input.stripe));
+        let new_strip = lent.slice(&input.new_strip);
+        code(bridgecrumb::update(edition, card, input.strip_len, stripe, input.disk, new_strip))
     },
     reference: |input| {
         let after = updates::update(&input.card, input.strip_len, &input.stripe, input.disk, &input.new_strip);
@@ -40,11 +43,12 @@ pub const UPDATE: Row = Row {
 };
 
 /// A card and one of its data disks, which stands in so many columns as is chosen, none too.
-fn any_naming(choice: &mut Choice) -> (Vec<u8>, usize) {
+fn any_naming(choice: &mut Choice) -> (Card, usize) {
     let (k, m) = (2 + choice.below(15), 1 + choice.below(16));
     let (disk, size) = (choice.below(k), choice.below(m + 1));
     let naming = choice.set(m, size);
-    (card_naming(choice, k, m, disk, naming), disk)
+    let card = card_naming(choice, k, m, disk, naming);
+    (of_any_edition(choice, card), disk)
 }
 
 /// Mostly a data disk, and a stripe that is encoded, spoiled or any bytes.
@@ -53,7 +57,7 @@ fn any_update(choice: &mut Choice) -> Input {
         0 => any_naming(choice),
         kind => {
             let card = any_card(choice, 16);
-            let k = read_card(&card).map_or(16, |(k, ..)| k);
+            let k = read_card(&card).map_or(16, |said| said.k);
             let disk = if kind == 1 { any_disk(choice, disks_of(&card)) } else { choice.below(k) };
             (card, disk)
         }

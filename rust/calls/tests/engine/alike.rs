@@ -4,16 +4,16 @@
 
 use crate::listed::listed;
 use crate::worked::worked;
-use bridgecrumb::{alike, encode, Listing};
+use bridgecrumb::{alike, encode, Edition::First, Listing};
 use calls::cards::{any_columns, c1, card_of, every_card, repeated_columns};
 use calls::choice::Choice;
 use calls::input::Input;
-use calls::reference::{self, read_card};
+use calls::reference::{self, read_card, Card, Said};
 use calls::table::TABLE;
 
 /// A card, and what the engine's lister answers for it.
 struct Listed {
-    card: Vec<u8>,
+    card: Card,
     k: usize,
     columns: Vec<u16>,
     told: Listing,
@@ -21,8 +21,8 @@ struct Listed {
 }
 
 impl Listed {
-    fn of(card: Vec<u8>) -> Listed {
-        let (k, _, columns) = read_card(&card).expect("a good card");
+    fn of(card: Card) -> Listed {
+        let Said { k, columns, .. } = read_card(&card).expect("a good card");
         let (told, list) = listed(&card);
         Listed { card, k, columns, told, list }
     }
@@ -42,9 +42,9 @@ impl Listed {
     /// The disks interchange: out of the same data strips the encoder makes the same parity strips, each for the disk that its own is renumbered to.
     fn strips_match(&self, order: &[usize], other: &Listed, data: &[u8]) {
         let strip_len = data.len() / self.k;
-        let encoded = |card: &[u8]| {
+        let encoded = |card: &Card| {
             let mut stripe = [data, &vec![0; order.len() * strip_len]].concat();
-            encode(card, strip_len, &mut stripe).expect("a stripe");
+            encode(First, card, strip_len, &mut stripe).expect("a stripe");
             stripe.split_off(data.len())
         };
         let (here, there) = (encoded(&self.card), encoded(&other.card));
@@ -68,8 +68,8 @@ fn orders(m: usize) -> Vec<Vec<usize>> {
     orders(m - 1).into_iter().flat_map(with_last).collect()
 }
 
-fn said(first: &[u8], second: &[u8]) -> bool {
-    alike(first, second).expect("good cards")
+fn said(first: &Card, second: &Card) -> bool {
+    alike(First, first, First, second).expect("good cards")
 }
 
 /// Alike exactly where one of all m! orders carries the columns of the first to those of the second, and for each such order the lists match. Each order
@@ -124,14 +124,14 @@ fn any_cards() {
 }
 
 /// What two cards answer, either one first.
-fn by_hand(first: Vec<u8>, second: Vec<u8>, answer: bool) {
-    for (card, second) in [(first.clone(), second.clone()), (second, first)] {
-        worked("alike", Input { card, second, ..Input::default() }, 256 * u64::from(answer), Vec::new());
+fn by_hand(first: Card, second: Card, answer: bool) {
+    for (card, other) in [(first.clone(), second.clone()), (second, first)] {
+        worked("alike", Input { card, other, ..Input::default() }, 256 * u64::from(answer), Vec::new());
     }
 }
 
-fn equal_vectors(first: &[u8], second: &[u8]) -> bool {
-    Listed::of(first.to_vec()).told.vector == Listed::of(second.to_vec()).told.vector
+fn equal_vectors(first: &Card, second: &Card) -> bool {
+    Listed::of(first.clone()).told.vector == Listed::of(second.clone()).told.vector
 }
 
 #[test]
@@ -206,9 +206,9 @@ fn twice_at_each_place() {
 /// The first card's fault is answered, then the second's, with the number of its column.
 #[test]
 fn refusals_in_order() {
-    let refused = |card: &[u8], second: &[u8], answer| {
-        let (card, second) = (card.to_vec(), second.to_vec());
-        worked("alike", Input { card, second, ..Input::default() }, answer, Vec::new());
+    let refused = |card: &[u8], other: &[u8], answer| {
+        let (card, other) = (Card::first(card.to_vec()), Card::first(other.to_vec()));
+        worked("alike", Input { card, other, ..Input::default() }, answer, Vec::new());
     };
     let (good, column) = (&c1()[..], &[2, 2, 1, 0, 4, 0]);
     refused(column, &[], 5 + 256);
@@ -227,7 +227,7 @@ fn refusals_in_order() {
 /// On all cards of up to 5 disks the relation is reflexive, symmetric and transitive.
 #[test]
 fn an_equivalence() {
-    let cards: Vec<Vec<u8>> = (2..=5).flat_map(every_card).collect();
+    let cards: Vec<Card> = (2..=5).flat_map(every_card).collect();
     let all: Vec<Vec<bool>> = cards.iter().map(|a| cards.iter().map(|b| said(a, b)).collect()).collect();
     for a in 0..cards.len() {
         assert!(all[a][a], "{:?}", cards[a]);
@@ -264,18 +264,18 @@ fn choices() {
 
 /// Of two cards: the same set of columns, an equal sum and XOR, equal vectors, which are worked out where there are few data disks.
 fn nearness(input: &Input) -> [bool; 3] {
-    let (k, m, first) = read_card(&input.card).expect("a good card");
-    let (other_k, other_m, second) = read_card(&input.second).expect("a good card");
+    let Said { k, m, columns: first, .. } = read_card(&input.card).expect("a good card");
+    let Said { k: other_k, m: other_m, columns: second, .. } = read_card(&input.other).expect("a good card");
     if (k, m) != (other_k, other_m) {
         return [false; 3];
     }
     let sums = |columns: &[u16]| columns.iter().fold((0, 0), |(sum, xor), &c| (sum + u32::from(c), xor ^ c));
     let vector =
-        |card: &[u8]| reference::code(card).map(|code| reference::vector(&code, &reference::minimal_erasures(&code)));
+        |card: &Card| reference::code(card).map(|code| reference::vector(&code, &reference::minimal_erasures(&code)));
     let inside = |some: &[u16], all: &[u16]| some.iter().all(|column| all.contains(column));
     [
         inside(&first, &second) && inside(&second, &first),
         sums(&first) == sums(&second),
-        k <= 8 && vector(&input.card) == vector(&input.second),
+        k <= 8 && vector(&input.card) == vector(&input.other),
     ]
 }

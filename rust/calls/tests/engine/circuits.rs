@@ -4,6 +4,7 @@
 use crate::listed::listed;
 use calls::cards::{c1, card_of, every_card, good_card};
 use calls::choice::Choice;
+use calls::reference::Card;
 use std::fs;
 use std::path::Path;
 
@@ -41,7 +42,7 @@ fn parities(card: &[u8]) -> u32 {
 }
 
 /// All pairs of entries of each card; prints how many there were.
-fn try_all_pairs(name: &str, cards: &[Vec<u8>]) {
+fn try_all_pairs(name: &str, cards: &[Card]) {
     let (mut tried, mut overlapping) = (0, 0);
     for card in cards {
         let (_, list) = listed(card);
@@ -55,7 +56,7 @@ fn try_all_pairs(name: &str, cards: &[Vec<u8>]) {
 
 #[test]
 fn small_cards() {
-    let cards: Vec<Vec<u8>> = (2..=7).flat_map(every_card).collect();
+    let cards: Vec<Card> = (2..=7).flat_map(every_card).collect();
     try_all_pairs("up to 7 disks", &cards);
 }
 
@@ -64,7 +65,7 @@ fn sample_cards() {
     let samples = Path::new(env!("CARGO_MANIFEST_DIR")).join("../../samples");
     let files = fs::read_dir(samples).expect("the samples").map(|file| file.expect("a file").path());
     let cards = files.filter(|path| path.extension().map_or(false, |end| end == "card"));
-    let cards: Vec<Vec<u8>> = cards.map(|path| fs::read(path).expect("a card")).collect();
+    let cards: Vec<Card> = cards.map(|path| Card::first(fs::read(path).expect("a card"))).collect();
     assert!(cards.contains(&c1()));
     try_all_pairs("samples", &cards);
 }

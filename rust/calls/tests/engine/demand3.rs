@@ -7,10 +7,10 @@
 //! equations among the survivors; the partial rebuild's answer holds it.
 
 use crate::listed::listed;
-use bridgecrumb::Error;
+use bridgecrumb::{Edition::First, Error};
 use calls::cards::{every_card, good_card};
 use calls::choice::Choice;
-use calls::reference::{code, quick, strips, Code};
+use calls::reference::{code, quick, strips, Card, Code};
 
 /// What the engine lists for a card.
 struct Lists {
@@ -20,12 +20,12 @@ struct Lists {
 }
 
 impl Lists {
-    fn of(card: &[u8], n: usize) -> Lists {
+    fn of(card: &Card, n: usize) -> Lists {
         let (_, erasures) = listed(card);
         let mut slice = vec![0; 1 << 16];
         let mut equations = Vec::new();
         for disk in 0..n {
-            let count = bridgecrumb::equations(card, disk, &mut slice).unwrap();
+            let count = bridgecrumb::equations(First, card, disk, &mut slice).unwrap();
             equations.push(slice[..count].to_vec());
         }
         Lists { erasures, equations }
@@ -49,7 +49,7 @@ impl Lists {
 
 /// A loss of a stripe that was encoded, and of one of any bytes, which may be of no content.
 struct Loss<'a> {
-    card: &'a [u8],
+    card: &'a Card,
     set: u32,
     strip_len: usize,
     encoded: Vec<u8>,
@@ -59,7 +59,7 @@ struct Loss<'a> {
 }
 
 impl Loss<'_> {
-    fn of<'a>(choice: &mut Choice, card: &'a [u8], code: &Code, set: u32) -> Loss<'a> {
+    fn of<'a>(choice: &mut Choice, card: &'a Card, code: &Code, set: u32) -> Loss<'a> {
         let strip_len = 1 + choice.below(20);
         let any = choice.bytes(code.n() * strip_len);
         let encoded = strips::encoded(code, strip_len, &any);
@@ -81,8 +81,8 @@ impl Loss<'_> {
     /// same where the set is fatal.
     fn rebuilder_says_11(&self) -> bool {
         let (mut stripe, mut any) = (self.stripe.clone(), self.any.clone());
-        let answer = bridgecrumb::rebuild(self.card, self.strip_len, self.set, &mut stripe);
-        let other = bridgecrumb::rebuild(self.card, self.strip_len, self.set, &mut any);
+        let answer = bridgecrumb::rebuild(First, self.card, self.strip_len, self.set, &mut stripe);
+        let other = bridgecrumb::rebuild(First, self.card, self.strip_len, self.set, &mut any);
         assert_eq!(answer == Err(Error::Fatal), other == Err(Error::Fatal), "{:?}, set {:#x}", self.card, self.set);
         match answer {
             Ok(count) => {
@@ -101,13 +101,14 @@ impl Loss<'_> {
     /// it answers no disk, it does to the stripe of any bytes what the rebuilder does, 12 too.
     fn partly_rebuilt(&self) -> u32 {
         let mut stripe = self.stripe.clone();
-        let left = bridgecrumb::partial_rebuild(self.card, self.strip_len, self.set, &mut stripe).expect("a content");
+        let left =
+            bridgecrumb::partial_rebuild(First, self.card, self.strip_len, self.set, &mut stripe).expect("a content");
         let kept = |disk: usize| &self.stripe[disk * self.strip_len..(disk + 1) * self.strip_len];
         assert_eq!(stripe, self.with_strips(&self.encoded, left, kept), "{:?}, set {:#x}", self.card, self.set);
         if left == 0 {
             let (mut whole, mut part) = (self.any.clone(), self.any.clone());
-            let said = bridgecrumb::rebuild(self.card, self.strip_len, self.set, &mut whole).map(|_| 0);
-            assert_eq!(bridgecrumb::partial_rebuild(self.card, self.strip_len, self.set, &mut part), said);
+            let said = bridgecrumb::rebuild(First, self.card, self.strip_len, self.set, &mut whole).map(|_| 0);
+            assert_eq!(bridgecrumb::partial_rebuild(First, self.card, self.strip_len, self.set, &mut part), said);
             assert_eq!(part, whole, "{:?}, set {:#x}", self.card, self.set);
         }
         left
@@ -115,10 +116,10 @@ impl Loss<'_> {
 }
 
 /// The statements about the set, and those about its disks; answers whether the set is fatal.
-fn statements(choice: &mut Choice, card: &[u8], code: &Code, lists: &Lists, set: u32) -> bool {
+fn statements(choice: &mut Choice, card: &Card, code: &Code, lists: &Lists, set: u32) -> bool {
     let (fatal, undetermined) = (quick::fatal_by_two_words(code, set), quick::undetermined_by_two_words(code, set));
     let loss = Loss::of(choice, card, code, set);
-    let (verdict, untold) = (bridgecrumb::undetermined(card, set).unwrap(), lists.untold(set));
+    let (verdict, untold) = (bridgecrumb::undetermined(First, card, set).unwrap(), lists.untold(set));
     let of_set = [fatal, verdict != 0, lists.contains_listed(set), untold != 0, loss.rebuilder_says_11()];
     assert_eq!(of_set, [fatal; 5], "{card:?}, set {set:#x}");
     let of_disks = [undetermined, verdict, lists.in_listed(set), untold, loss.partly_rebuilt()];
@@ -146,7 +147,7 @@ fn any_set(choice: &mut Choice, code: &Code, lists: &Lists) -> u32 {
 }
 
 /// The statements about the sets that are told for each card; prints how many there were.
-fn try_cards(name: &str, cards: &[Vec<u8>], sets_of: impl Fn(&mut Choice, &Code, &Lists) -> Vec<u32>) {
+fn try_cards(name: &str, cards: &[Card], sets_of: impl Fn(&mut Choice, &Code, &Lists) -> Vec<u32>) {
     let mut choice = Choice::named(name);
     let (mut sets, mut fatal) = (0, 0);
     for card in cards {
@@ -163,13 +164,13 @@ fn try_cards(name: &str, cards: &[Vec<u8>], sets_of: impl Fn(&mut Choice, &Code,
 
 #[test]
 fn small_cards() {
-    let cards: Vec<Vec<u8>> = (2..=6).flat_map(every_card).collect();
+    let cards: Vec<Card> = (2..=6).flat_map(every_card).collect();
     try_cards("up to 6 disks", &cards, |_, code, _| (0..=code.disks()).collect());
 }
 
 fn some_cards(name: &str, cards: usize, largest: usize, sets: usize) {
     let mut choice = Choice::named(name);
-    let cards: Vec<Vec<u8>> = (0..cards).map(|_| good_card(&mut choice, largest, largest)).collect();
+    let cards: Vec<Card> = (0..cards).map(|_| good_card(&mut choice, largest, largest)).collect();
     try_cards(name, &cards, |choice, code, lists| (0..sets).map(|_| any_set(choice, code, lists)).collect());
 }
 

@@ -2,9 +2,11 @@
 //! and faults alone and together. The archive's call and the safe function get the same, their buffers at each place in turn.
 
 use calls::choice::{seed, Choice};
+use calls::editions::{of_any_edition, worn};
 use calls::input::Input;
 use calls::lent::{Lent, Place};
 use calls::planted;
+use calls::reference::Edition;
 use calls::stripes::LONG;
 use calls::table::{Fault, Row};
 use calls::tried::Tried;
@@ -31,6 +33,22 @@ impl Driver {
         let answer = row.try_input(input, &mut self.lent, Place::of_turn(self.calls));
         self.tried.count(place, answer);
         answer
+    }
+
+    /// With the cards in edition 2.
+    fn try_worn(&mut self, place: usize, row: &Row, input: &Input) -> u64 {
+        let mut input = input.clone();
+        input.card = worn(&mut self.choice, &input.card);
+        input.other = of_any_edition(&mut self.choice, input.other);
+        self.try_input(place, row, &input)
+    }
+
+    /// In each edition in turn, where the caller names it.
+    fn try_of_edition(&mut self, place: usize, row: &Row, input: &Input) -> u64 {
+        match self.calls % 2 {
+            1 if row.editions.len() > 1 => self.try_worn(place, row, input),
+            _ => self.try_input(place, row, input),
+        }
     }
 }
 
@@ -73,13 +91,13 @@ fn chosen() {
 #[test]
 fn strip_lengths() {
     drive("each strip length", |driver, place, row| {
-        let good = (row.good)();
+        let good = (row.good)(row.editions[0]);
         if good.strip_len == 0 && good.file.is_empty() {
             return;
         }
         for strip_len in (1..=600).chain(LONG) {
             for (at, input) in of_length(&mut driver.choice, strip_len).iter().enumerate() {
-                let answer = driver.try_input(place, row, input);
+                let answer = driver.try_of_edition(place, row, input);
                 assert!(answer % 256 == 0 || (1..16).contains(&at), "{}: a whole stripe is refused", row.name);
             }
             for _ in 0..4 {
@@ -97,7 +115,7 @@ fn largest_codes() {
     drive("largest codes", |driver, place, row| {
         for (k, m) in [(16, 16), (16, 1), (1, 16), (16, 8), (8, 16)] {
             for input in largest(&mut driver.choice, k, m) {
-                driver.try_input(place, row, &input);
+                driver.try_of_edition(place, row, &input);
             }
         }
     });
@@ -110,48 +128,60 @@ fn small_codes() {
             let mut choice = Choice::named(row.name);
             (row.every)(n, &mut choice, &mut |input| {
                 driver.try_input(place, row, input);
+                // one in 16 with wears too
+                if driver.calls % 16 == 0 && row.editions.len() > 1 && input.card.edition == Edition::First {
+                    driver.try_worn(place, row, input);
+                }
             });
         }
     });
 }
 
 /// The good arguments with these faults, the last in the documents' order put in first.
-fn spoiled(row: &Row, faults: &[&Fault]) -> Input {
-    let mut input = (row.good)();
+fn spoiled(row: &Row, edition: Edition, faults: &[&Fault]) -> Input {
+    let mut input = (row.good)(edition);
     faults.iter().rev().for_each(|fault| (fault.spoil)(&mut input));
     input
 }
 
+/// A call in one edition.
+struct Way<'a> {
+    place: usize,
+    row: &'a Row,
+    edition: Edition,
+}
+
 impl Driver {
     /// The first fault is answered, whatever follows.
-    fn try_faults(&mut self, place: usize, row: &Row, faults: &[&Fault]) {
-        let answer = self.try_input(place, row, &spoiled(row, faults));
+    fn try_faults(&mut self, way: &Way, faults: &[&Fault]) {
+        let input = spoiled(way.row, way.edition, faults);
+        let answer = self.try_input(way.place, way.row, &input);
         if let (Some(first), false) = (faults.first(), faults.len() > 1 && faults.iter().any(|fault| fault.alone)) {
-            assert_eq!(answer, first.answer, "{}: the reference's answer to {:?}", row.name, spoiled(row, faults));
+            assert_eq!(answer, first.answer, "{}: the reference's answer to {input:?}", way.row.name);
         }
     }
 
     /// One way or none to each of these refusals, beside those that were taken.
-    fn every_choice<'a>(&mut self, place: usize, row: &Row, taken: &mut Vec<&'a Fault>, stages: &[&'a [Fault]]) {
+    fn every_choice<'a>(&mut self, way: &Way, taken: &mut Vec<&'a Fault>, stages: &[&'a [Fault]]) {
         match stages.split_first() {
-            None => self.try_faults(place, row, taken),
+            None => self.try_faults(way, taken),
             Some((stage, later)) => {
-                self.every_choice(place, row, taken, later);
+                self.every_choice(way, taken, later);
                 for fault in stage.iter() {
                     taken.push(fault);
-                    self.every_choice(place, row, taken, later);
+                    self.every_choice(way, taken, later);
                     taken.pop();
                 }
             }
         }
     }
 
-    fn every_two(&mut self, place: usize, row: &Row, stages: &[Vec<Fault>]) {
+    fn every_two(&mut self, way: &Way, stages: &[Vec<Fault>]) {
         for (at, stage) in stages.iter().enumerate() {
             for first in stage {
-                self.try_faults(place, row, &[first]);
+                self.try_faults(way, &[first]);
                 for second in stages[at + 1..].iter().flatten() {
-                    self.try_faults(place, row, &[first, second]);
+                    self.try_faults(way, &[first, second]);
                 }
             }
         }
@@ -161,14 +191,17 @@ impl Driver {
 #[test]
 fn faults() {
     drive("faults", |driver, place, row| {
-        let stages = (row.faults)();
-        let good = driver.try_input(place, row, &(row.good)());
-        assert_eq!(good % 256, 0, "{}: its good arguments are refused", row.name);
-        driver.every_two(place, row, &stages);
-        // where all ways are too many, the first to each refusal
-        let many = stages.iter().map(|stage| stage.len() + 1).product::<usize>() > 400_000;
-        let stages: Vec<&[Fault]> = stages.iter().map(|stage| &stage[..if many { 1 } else { stage.len() }]).collect();
-        driver.every_choice(place, row, &mut Vec::new(), &stages);
+        for &edition in row.editions {
+            let (way, stages) = (Way { place, row, edition }, (row.faults)(edition));
+            let good = driver.try_input(place, row, &(row.good)(edition));
+            assert_eq!(good % 256, 0, "{}: its good arguments are refused", row.name);
+            driver.every_two(&way, &stages);
+            // where all ways are too many, the first to each refusal
+            let many = stages.iter().map(|stage| stage.len() + 1).product::<usize>() > 400_000;
+            let first_ways = |stage: &Vec<Fault>| if many { 1 } else { stage.len() };
+            let stages: Vec<&[Fault]> = stages.iter().map(|stage| &stage[..first_ways(stage)]).collect();
+            driver.every_choice(&way, &mut Vec::new(), &stages);
+        }
         driver.tried.every_refusal(place, row);
     });
 }

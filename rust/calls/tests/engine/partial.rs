@@ -1,13 +1,13 @@
 //! Partial rebuilds of losses that leave some disks undetermined, with strips of each length at which the engine may go another way: beside the
 //! reference, and the strips that come back beside those that were encoded.
 
-use bridgecrumb::{partial_rebuild, rebuild, Error};
+use bridgecrumb::{partial_rebuild, rebuild, Edition::First, Error};
 use calls::cards::{card_of, fatal_set, good_card};
 use calls::choice::Choice;
 use calls::input::Input;
 use calls::lent::{Lent, Place};
 use calls::reference::strips::encoded;
-use calls::reference::{code, verdict};
+use calls::reference::{code, verdict, Card};
 use calls::stripes::lose;
 use calls::table::{Row, TABLE};
 
@@ -21,7 +21,7 @@ fn row() -> &'static Row {
 }
 
 /// Codes of 16 + 16 disks with dense and with sparse columns, of 10 + 4, and one of any size.
-fn some_cards(choice: &mut Choice) -> Vec<Vec<u8>> {
+fn some_cards(choice: &mut Choice) -> Vec<Card> {
     let columns = |m: usize, column: fn(usize) -> u32| (0..m).map(|j| column(j) as u16).collect::<Vec<u16>>();
     let dense: Vec<u16> = (0..16).map(|_| 1 + choice.below(0xffff) as u16).collect();
     vec![
@@ -42,7 +42,7 @@ struct Loss {
 
 impl Loss {
     /// Of this set of disks.
-    fn of(choice: &mut Choice, card: Vec<u8>, set: u32, strip_len: usize) -> Loss {
+    fn of(choice: &mut Choice, card: Card, set: u32, strip_len: usize) -> Loss {
         let code = code(&card).expect("a code");
         let encoded = encoded(&code, strip_len, &choice.bytes(code.n() * strip_len));
         let undetermined = verdict(&code, set).expect("a set of the code");
@@ -109,7 +109,12 @@ fn lost_bytes_have_no_effect() {
             let strips = now.chunks_mut(*strip_len).zip(before.chunks(*strip_len)).enumerate();
             strips.filter(|(disk, _)| set >> disk & 1 == 1).for_each(|(_, (strip, lost))| strip.copy_from_slice(lost));
             let wanted = loss.restored(&now);
-            assert_eq!(partial_rebuild(card, *strip_len, *set, &mut now), Ok(loss.undetermined), "{}", loss.said());
+            assert_eq!(
+                partial_rebuild(First, card, *strip_len, *set, &mut now),
+                Ok(loss.undetermined),
+                "{}",
+                loss.said()
+            );
             assert!(now == wanted, "{}", loss.said());
         }
     });
@@ -155,8 +160,10 @@ fn beside_the_rebuilder() {
                 let set = choice.set(n, size.min(n));
                 let loss = Loss::of(&mut choice, card.clone(), set, strip_len);
                 let (mut part, mut all) = (loss.input.stripe.clone(), loss.input.stripe.clone());
-                let answers =
-                    (partial_rebuild(&card, strip_len, set, &mut part), rebuild(&card, strip_len, set, &mut all));
+                let answers = (
+                    partial_rebuild(First, &card, strip_len, set, &mut part),
+                    rebuild(First, &card, strip_len, set, &mut all),
+                );
                 if loss.undetermined == 0 {
                     whole += 1;
                     assert_eq!(answers, (Ok(0), Ok(set.count_ones() as usize)), "{}", loss.said());

@@ -1,6 +1,6 @@
 //! The reader accepts only what the writer can write: an accepted file is what the engine writes from its own answers.
 
-use bridgecrumb::{body, read_record, write_card, write_record};
+use bridgecrumb::{body, read_record, write_card, write_record, Edition::First};
 use calls::choice::Choice;
 use calls::records::any_file;
 
@@ -11,7 +11,7 @@ fn written_again(choice: &mut Choice, file: &[u8]) -> bool {
         Err(_) => return false,
     };
     let mut card = vec![0; 2 + 2 * record.m];
-    write_card(record.k, record.m, &record.columns[..record.m], &mut card).expect("the card that was read");
+    write_card(First, record.k, record.m, &record.columns[..record.m], &[], &mut card).expect("the card that was read");
     let mut stripe = Vec::new();
     for disk in 0..record.k + record.m {
         match body(file, disk) {

@@ -3,7 +3,7 @@
 
 use crate::listed::listed;
 use crate::worked::worked;
-use bridgecrumb::{read_card, write_card, write_stepped_card, Card};
+use bridgecrumb::{read_card, write_card, write_stepped_card, Card, Edition::First};
 use calls::cards::card_of;
 use calls::input::Input;
 use calls::lent::{Lent, Place};
@@ -102,12 +102,12 @@ fn each_card(then: impl Fn(&Family, &[u32], &[u8])) {
 #[test]
 fn parity_sets_in_order() {
     each_card(|family, sets, card| {
-        let Card { k, m, columns } = read_card(card).expect("a good card");
+        let Card { k, m, columns, .. } = read_card(First, card).expect("a good card");
         assert_eq!((k, m), (sets.len(), family.m));
         let set = |i: usize| (0..16).filter(|&j| columns[j] >> i & 1 == 1).map(|j| 1 << j).sum::<u32>();
         assert_eq!((0..k).map(set).collect::<Vec<u32>>(), sets, "{card:?}");
         let mut again = vec![0; card.len()];
-        write_card(k, m, &columns[..m], &mut again).expect("its columns");
+        write_card(First, k, m, &columns[..m], &[], &mut again).expect("its columns");
         assert_eq!(again, card);
     });
 }
@@ -126,7 +126,7 @@ fn distances() {
 
 /// The card has these columns.
 fn made(d: usize, m: usize, k: usize, columns: &[u16]) {
-    worked("card_stepped", input(d, m, k, 2 + 2 * m), 0, vec![card_of(k, m, columns)]);
+    worked("card_stepped", input(d, m, k, 2 + 2 * m), 0, vec![card_of(k, m, columns).bytes]);
 }
 
 /// By hand, column by column. With d = 3 and m = 4 the lexicographic order would be another: 3, 5, 9, 6, 10, 12. Columns of 16 data disks have both

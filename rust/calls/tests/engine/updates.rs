@@ -1,7 +1,7 @@
 //! Updates of disks in few and in many columns, with strips of each length at which the engine may go another way: beside the
 //! reference, and the engine's update beside its encoder.
 
-use bridgecrumb::{encode, update};
+use bridgecrumb::{encode, update, Edition::First};
 use calls::cards::card_naming;
 use calls::choice::Choice;
 use calls::input::Input;
@@ -69,11 +69,11 @@ fn as_encoding_afresh() {
     each_way("updates, afresh", |_, input, columns| {
         let Input { card, strip_len, disk, .. } = &input;
         let (naming, mut now, mut afresh) = (columns.count_ones() as usize, input.stripe.clone(), input.stripe.clone());
-        assert_eq!(update(card, *strip_len, &mut now, *disk, &input.new_strip), Ok(1 + naming));
+        assert_eq!(update(First, card, *strip_len, &mut now, *disk, &input.new_strip), Ok(1 + naming));
         afresh[strip_of(&input)].copy_from_slice(&input.new_strip);
-        encode(card, *strip_len, &mut afresh).expect("a stripe");
+        encode(First, card, *strip_len, &mut afresh).expect("a stripe");
         assert!(now == afresh, "disk {disk}, strips of {strip_len} bytes, {card:?}");
-        assert_eq!(update(card, *strip_len, &mut now, *disk, &input.stripe[strip_of(&input)]), Ok(1 + naming));
+        assert_eq!(update(First, card, *strip_len, &mut now, *disk, &input.stripe[strip_of(&input)]), Ok(1 + naming));
         assert!(now == input.stripe, "disk {disk}, strips of {strip_len} bytes, {card:?}");
     });
 }
@@ -91,7 +91,7 @@ fn one_byte() {
         let mut wanted = input.stripe.clone();
         let parities = (0..16).filter(|j| columns >> j & 1 == 1).map(|j| usize::from(input.card[0]) + j);
         parities.chain([disk]).for_each(|other| wanted[other * strip_len + t] ^= change);
-        update(&input.card, strip_len, &mut input.stripe, disk, &input.new_strip).expect("a stripe");
+        update(First, &input.card, strip_len, &mut input.stripe, disk, &input.new_strip).expect("a stripe");
         assert!(input.stripe == wanted, "disk {disk}, byte {t} of {strip_len}, {:?}", input.card);
     });
 }

@@ -1,7 +1,7 @@
 //! Document 01's worked codes, C1 to C12, verdicts, equations in order, partial rebuilds, quick repairs and updates of document 02 and a record
 //! by hand: of the reference, and of the engine beside it.
 
-use bridgecrumb::Error;
+use bridgecrumb::{Edition::First, Error};
 use calls::cards::{card_of, card_of_size};
 use calls::choice::Choice;
 use calls::input::{bytes_of, Input, Told};
@@ -29,9 +29,9 @@ fn listed(k: usize, columns: &[u16], list: &[u32], vector: &[usize]) {
         256 * list.len() as u64,
         written,
     );
-    let (second, other) = (card.clone(), card_of(4, 3, &[7, 11, 12]));
-    worked("alike", Input { card: card.clone(), second, ..Input::default() }, 256, Vec::new());
-    worked("alike", Input { card, second: other, ..Input::default() }, 0, Vec::new());
+    let (same, other) = (card.clone(), card_of(4, 3, &[7, 11, 12]));
+    worked("alike", Input { card: card.clone(), other: same, ..Input::default() }, 256, Vec::new());
+    worked("alike", Input { card, other, ..Input::default() }, 0, Vec::new());
 }
 
 #[test]
@@ -120,7 +120,9 @@ fn c11_card() {
     let mut columns = vec![3, 0];
     columns.resize(32, 0);
     let card = |column| Input { card: card_of(2, 1, &[column]), ..Input::default() };
-    worked("card_read", card(3), 0, vec![bytes_of(&[2, 1], usize::to_le_bytes), columns]);
+    let mut wears = vec![1, 1, 1];
+    wears.resize(32, 0);
+    worked("card_read", card(3), 0, vec![bytes_of(&[2, 1], usize::to_le_bytes), columns, wears]);
     worked("card_read", card(4), 5, Vec::new());
 }
 
@@ -216,7 +218,7 @@ fn largest_tray() {
     let before = choice.bytes(8 * 32 * 65536);
     let (steps, left, tray) = trays::quick_repair(&card, 65536, &sets, usize::MAX, &before).expect("a tray");
     let mut now = before;
-    let repair = bridgecrumb::quick_repair(&card, 65536, &sets, usize::MAX, &mut now).expect("a tray");
+    let repair = bridgecrumb::quick_repair(First, &card, 65536, &sets, usize::MAX, &mut now).expect("a tray");
     assert_eq!((repair.steps, repair.left.to_vec()), (steps, left));
     assert!(steps > 0 && now == tray);
 }
@@ -246,6 +248,9 @@ fn numbers_and_values() {
         Error::NewLength,
         Error::Distance,
         Error::Bounds,
+        Error::FirstByte,
+        Error::ZeroWear,
+        Error::Lossy,
     ];
     for (error, number) in all.iter().zip(1..) {
         let value = match number {

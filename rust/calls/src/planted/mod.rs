@@ -1,15 +1,15 @@
 //! Faults planted between the drivers and the engine, to see that they are found: BRIDGECRUMB_FAULT names one of them by its number, from 1.
 //! Without it nothing stands between them.
 
-use crate::cards::card_of;
-use crate::input::{bytes_of, Input};
-use crate::lent::{Lent, Place};
-use crate::reference::stepped::{columns, parity_sets};
-use crate::reference::{code, minimal_erasures, read_card, vector};
-use crate::rows::{cards, records, sets, stepped, strips, trays, updates};
+mod bent;
+
+use crate::input::Input;
+use crate::lent::Place;
+use crate::reference::{cards as bytes, wear as wears, Card, Edition};
+use crate::rows::cards::large;
+use crate::rows::{alike, cards, converters, records, sets, stepped, strips, trays, updates, wear};
 use crate::table::{Engine, Row, TABLE};
-use std::cmp::Reverse;
-use std::collections::BTreeSet;
+use bent::*;
 use std::env;
 
 /// Whose fault it is.
@@ -40,19 +40,19 @@ pub fn table() -> [Row; TABLE.len()] {
 
 /// Each under a line that says what is wrong.
 #[rustfmt::skip]
-const PLANTED: [Planted; 43] = [
+const PLANTED: [Planted; 56] = [
     // the last wrong column instead of the first
     Archive("card_read", |input, lent| last_wrong_column(input, (cards::READ.engine)(input, lent))),
     // a refusal writes k
     Archive("card_read", |input, lent| after(cards::READ.engine, input, lent, 4, |lent, _| lent.written(0)[0] = 9)),
     // 7 before 5
-    Archive("card_write", |input, lent| instead(cards::WRITE.engine, input, lent, 5, input.out_len != input.m.wrapping_mul(2).wrapping_add(2), 7)),
+    Archive("card_write", |input, lent| instead(cards::WRITE.engine, input, lent, 5, other_buffer(input), 7)),
     // parity sets of one size by their lowest parity disk, then the next
     Archive("card_stepped", |input, lent| after(stepped::STEPPED.engine, input, lent, 0, |lent, _| lowest_first(input, lent.written(0)))),
     // alike by the vectors, as document 01 had it
-    Archive("alike", |input, lent| instead(cards::ALIKE.engine, input, lent, 0, equal_vectors(input), 256)),
+    Archive("alike", |input, lent| instead(alike::ALIKE.engine, input, lent, 0, equal_vectors(input), 256)),
     // alike where the sets of columns are equal, however often each stands
-    Archive("alike", |input, lent| instead(cards::ALIKE.engine, input, lent, 0, equal_sets(input), 256)),
+    Archive("alike", |input, lent| instead(alike::ALIKE.engine, input, lent, 0, equal_sets(input), 256)),
     // the last byte of some lengths is left out
     Archive("encode", |input, lent| after(strips::ENCODE.engine, input, lent, 0, |lent, _| if input.strip_len % 16 == 15 {
         *lent.written(0).last_mut().unwrap() = *input.stripe.last().unwrap();
@@ -68,14 +68,14 @@ const PLANTED: [Planted; 43] = [
     }),
     // nothing is undetermined in large codes, for sets of one size
     Archive("verdict", |input, lent| {
-        let one_size = input.card.get(1).copied().map(u32::from) == Some(input.set.count_ones());
-        instead(sets::VERDICT.engine, input, lent, 0, large(input) && one_size, 0)
+        let one_size = input.card.code_bytes().get(1).copied().map(u32::from) == Some(input.set.count_ones());
+        instead(sets::VERDICT.engine, input, lent, 0, large(&input.card) && one_size, 0)
     }),
     // an entry is written behind the list
     Archive("list", |input, lent| listed(sets::LIST.engine, input, lent, |out, count| if count < out.len() { out[count] = 0 })),
     // the vector's last number is missing
     Archive("list", |input, lent| after(sets::LIST.engine, input, lent, 0, |lent, _| {
-        let m = usize::from(input.card[1]);
+        let m = usize::from(input.card.code_bytes()[1]);
         lent.written(1)[8 * m..8 * m + 8].fill(0);
     })),
     // a refusal writes the vector
@@ -96,7 +96,7 @@ const PLANTED: [Planted; 43] = [
     Archive("equations", |input, lent| listed(sets::EQUATIONS.engine, input, lent, |out, count| out[..count].sort_by_key(|set| (set.count_ones(), *set)))),
     // entries with fewer parity disks before smaller ones
     Archive("equations", |input, lent| listed(sets::EQUATIONS.engine, input, lent, |out, count| {
-        let parities = |set: &u32| (set >> input.card[0]).count_ones();
+        let parities = |set: &u32| (set >> input.card.code_bytes()[0]).count_ones();
         out[..count].sort_by_key(parities);
     })),
     // a refusal writes
@@ -112,7 +112,7 @@ const PLANTED: [Planted; 43] = [
     }),
     // accepted in a large code, and no content agrees
     Archive("rebuild", |input, lent| {
-        instead(strips::REBUILD.engine, input, lent, 12, large(input), 256 * u64::from(input.set.count_ones()))
+        instead(strips::REBUILD.engine, input, lent, 12, large(&input.card), 256 * u64::from(input.set.count_ones()))
     }),
     // what is not restored becomes 0
     Archive("partial_rebuild", |input, lent| after(strips::PARTIAL_REBUILD.engine, input, lent, 0, |lent, undetermined| {
@@ -121,9 +121,56 @@ const PLANTED: [Planted; 43] = [
     })),
     // of a fatal loss the survivors are not looked at
     Archive("partial_rebuild", |input, lent| {
-        let undetermined = bridgecrumb::undetermined(&input.card, input.set).unwrap_or(0);
+        let undetermined = bridgecrumb::undetermined(input.card.edition.named(), &input.card, input.set).unwrap_or(0);
         instead(strips::PARTIAL_REBUILD.engine, input, lent, 12, undetermined != 0, 256 * u64::from(undetermined))
     }),
+    // wears behind the last disk's are not 0
+    Archive("card_read", |input, lent| after(cards::READ.engine, input, lent, 0, |lent, _| lent.written(2)[disks(input)..].fill(1))),
+    // any first byte is taken for edition 2
+    Archive("card_read", |input, lent| match (cards::READ.engine)(input, lent) {
+        22 => {
+            lent.begin(Place::End);
+            (cards::READ.engine)(&Input { card: Card::second([&[2], &input.card[1..]].concat()), ..input.clone() }, lent)
+        }
+        answer => answer,
+    }),
+    // 23 before 5
+    Archive("card_read", |input, lent| instead(cards::READ.engine, input, lent, 5, input.card.edition == Edition::Second && input.card.last() == Some(&0), 23)),
+    // 7 before 23
+    Archive("card_write", |input, lent| instead(cards::WRITE.engine, input, lent, 23, other_buffer(input), 7)),
+    // wears for edition 1 are dropped
+    Archive("card_write", |input, lent| {
+        let dropped = Input { wears: Vec::new(), ..input.clone() };
+        (cards::WRITE.engine)(if input.card.edition == Edition::First && input.columns.len() == input.m { &dropped } else { input }, lent)
+    }),
+    // the last wear is 2
+    Archive("card_up", |input, lent| after(converters::UP.engine, input, lent, 0, |lent, _| *lent.written(0).last_mut().unwrap() = 2)),
+    // 24 before 7
+    Archive("card_down", |input, lent| {
+        let lossy = bytes::down(&input.card, input.card.code_bytes().len()) == Err((24, None));
+        instead(converters::DOWN.engine, input, lent, 7, lossy, 24)
+    }),
+    // the last disk's wear is not looked at
+    Archive("card_down", |input, lent| match (converters::DOWN.engine)(input, lent) {
+        24 => {
+            lent.begin(Place::End);
+            let mut other = input.clone();
+            *other.card.last_mut().unwrap() = 1;
+            (converters::DOWN.engine)(&other, lent)
+        }
+        answer => answer,
+    }),
+    // the last of the equations that total least
+    Archive("least_wear", |input, lent| least_by(wear::LEAST_WEAR.engine, input, lent, wears::total)),
+    // the wear of the next disk
+    Archive("least_wear", |input, lent| least_by(wear::LEAST_WEAR.engine, input, lent, neighbours_wear)),
+    // 11 where the loss is fatal, though an equation survives
+    Archive("least_wear", |input, lent| {
+        let fatal = bridgecrumb::undetermined(input.card.edition.named(), &input.card, input.set).map_or(false, |set| set != 0);
+        instead(wear::LEAST_WEAR.engine, input, lent, 0, fatal, 11)
+    }),
+    // 9 before 8
+    Archive("least_wear", |input, lent| instead(wear::LEAST_WEAR.engine, input, lent, 8, input.disk >= disks(input), 9)),
     // a byte is written behind the record
     Archive("record_write", |input, lent| after(records::WRITE.engine, input, lent, 0, |lent, len| if len < input.out_len {
         lent.written(0)[len] = 0;
@@ -169,124 +216,12 @@ const PLANTED: [Planted; 43] = [
     Safe("list", |input, lent| one_less(sets::LIST.safe, input, lent, 0, 0)),
     // the lost set is cut to 16 bits
     Safe("record_read", |input, lent| after(records::READ.safe, input, lent, 0, |lent, _| lent.written(0)[26..28].fill(0))),
-    // the second card's refusal before the first's
+    // edition 2 is named as edition 1
+    Safe("least_wear", |input, lent| {
+        (wear::LEAST_WEAR.safe)(&Input { card: Card::first(input.card.code_bytes().to_vec()), ..input.clone() }, lent)
+    }),
+    // the other card's refusal before the first's
     Safe("alike", |input, lent| {
-        (cards::ALIKE.safe)(&Input { card: input.second.clone(), second: input.card.clone(), ..Input::default() }, lent)
+        (alike::ALIKE.safe)(&Input { card: input.other.clone(), other: input.card.clone(), ..Input::default() }, lent)
     }),
 ];
-
-/// The call, and where it answers this number, something more with its value.
-fn after(engine: Engine, input: &Input, lent: &mut Lent, number: u64, more: impl FnOnce(&mut Lent, usize)) -> u64 {
-    let answer = engine(input, lent);
-    if answer % 256 == number {
-        more(lent, answer as usize / 256);
-    }
-    answer
-}
-
-/// Another answer than this number for some inputs.
-fn instead(engine: Engine, input: &Input, lent: &mut Lent, number: u64, some: bool, other: u64) -> u64 {
-    match engine(input, lent) {
-        answer if answer % 256 == number && some => other,
-        answer => answer,
-    }
-}
-
-/// The count of a list of more than so many entries, in codes of more than so many disks, is one less, also where it is the count needed.
-fn one_less(engine: Engine, input: &Input, lent: &mut Lent, entries: u64, more_than: usize) -> u64 {
-    match engine(input, lent) {
-        answer if [0, 10].contains(&(answer % 256)) && answer / 256 > entries && disks(input) > more_than => {
-            answer - 256
-        }
-        answer => answer,
-    }
-}
-
-/// A call that lists, and something done to its slice where it is accepted.
-fn listed(engine: Engine, input: &Input, lent: &mut Lent, change: impl FnOnce(&mut [u32], usize)) -> u64 {
-    after(engine, input, lent, 0, |lent, count| {
-        let bytes = lent.written(0);
-        let mut out: Vec<u32> = bytes.chunks(4).map(|four| u32::from_le_bytes(four.try_into().unwrap())).collect();
-        change(&mut out, count);
-        bytes.copy_from_slice(&bytes_of(&out, u32::to_le_bytes));
-    })
-}
-
-fn disks(input: &Input) -> usize {
-    input.card.iter().take(2).map(|&count| usize::from(count)).sum()
-}
-
-fn large(input: &Input) -> bool {
-    matches!(input.card.first(), Some(11..=16))
-}
-
-fn last_wrong_column(input: &Input, answer: u64) -> u64 {
-    let columns = input.card.get(2..).unwrap_or(&[]).chunks(2);
-    match columns.clone().rposition(|column| column == [0, 0]) {
-        Some(last) if answer % 256 == 5 => 5 + 256 * (last as u64),
-        _ => answer,
-    }
-}
-
-/// Writes the card of parity sets in lexicographic order.
-fn lowest_first(input: &Input, card: &mut [u8]) {
-    let mut sets = parity_sets(input.distance, input.m);
-    sets.sort_by_key(|set| (set.count_ones(), Reverse(set.reverse_bits())));
-    card.copy_from_slice(&card_of(input.k, input.m, &columns(input.m, &sets[..input.k])));
-}
-
-/// Whether the cards have as many disks and the same vector; where that takes long it is not looked at.
-fn equal_vectors(input: &Input) -> bool {
-    let vector_of = |card: &[u8]| code(card).map(|code| vector(&code, &minimal_erasures(&code)));
-    !large(input) && input.card.get(..2) == input.second.get(..2) && vector_of(&input.card) == vector_of(&input.second)
-}
-
-/// Whether the cards have as many disks and the same columns, where one that stands twice counts once.
-fn equal_sets(input: &Input) -> bool {
-    let set_of = |card: &[u8]| read_card(card).map(|(k, m, columns)| (k, m, BTreeSet::from_iter(columns)));
-    set_of(&input.card) == set_of(&input.second)
-}
-
-/// Whether a file with a card has another number of entries than the card's disks need.
-fn other_count(file: &[u8]) -> bool {
-    let card = 10 + 10 * usize::from(file.get(8).copied().unwrap_or(0));
-    file.get(card..card + 2).map_or(false, |counts| file[8] != counts[0].wrapping_add(counts[1]).wrapping_add(1))
-}
-
-/// The file with 0 for the offset of each lost strip.
-fn without_offsets(input: &Input) -> Input {
-    let mut other = input.clone();
-    let (start, entries) = (other.file.len().min(20), usize::from(input.file[8]).saturating_sub(1));
-    for entry in other.file[start..].chunks_exact_mut(10).take(entries).filter(|entry| entry[0] == 2) {
-        entry[2..6].fill(0);
-    }
-    other
-}
-
-/// Takes the last data disk out of the parities again.
-fn without_last_disk(input: &Input, stripe: &mut [u8]) {
-    let (k, m, length) = (usize::from(input.card[0]), usize::from(input.card[1]), input.strip_len);
-    let (data, parity) = stripe.split_at_mut(k * length);
-    for j in 0..m {
-        let column = u16::from_le_bytes([input.card[2 + 2 * j], input.card[3 + 2 * j]]);
-        if column >> (k - 1) & 1 == 1 {
-            for t in 0..length {
-                parity[j * length + t] ^= data[(k - 1) * length + t];
-            }
-        }
-    }
-}
-
-/// The parities after the first that names the disk get their old bytes again.
-fn first_parity_alone(input: &Input, stripe: &mut [u8]) {
-    let columns = input.card[2..].chunks(2).map(|two| u16::from_le_bytes([two[0], two[1]]));
-    let first = columns.take_while(|column| column >> input.disk & 1 == 0).count();
-    let later = (usize::from(input.card[0]) + first + 1) * input.strip_len;
-    stripe.iter_mut().zip(&input.stripe).skip(later).for_each(|(byte, old)| *byte = *old);
-}
-
-/// Reads the byte behind a buffer.
-fn touch_behind(buffer: &[u8]) {
-    // SAFETY: there is none where the buffer ends at a closed page, and that is what is to be noticed
-    unsafe { std::ptr::read_volatile(buffer.as_ptr_range().end) };
-}
