@@ -91,11 +91,11 @@ pub extern "C" fn bridgecrumb_card_stepped(d: usize, m: usize, k: usize, out: &m
     stepped_code(stepped_card::write(d, m, k, out))
 }
 
-// Whether two cards are alike: the first in the second edition where a says so, and the second where b does. The
-// first card's refusals come before the second's.
+// Whether two cards are alike: the first is in the second edition where a says so, and the other where b does. The
+// first card's refusals come before the other's.
 #[no_mangle]
-pub extern "C" fn bridgecrumb_alike(a: bool, first: &[u8], b: bool, second: &[u8]) -> u64
-    ensures { λ r. ⌜ r ≡ coded (alikeReport (cardOf (named a) (now (first .entry))) (cardOf (named b) (now (second .entry)))) ⌝ }
+pub extern "C" fn bridgecrumb_alike(a: bool, first: &[u8], b: bool, other: &[u8]) -> u64
+    ensures { λ r. ⌜ r ≡ coded (alikeReport (cardOf (named a) (now (first .entry))) (cardOf (named b) (now (other .entry)))) ⌝ }
 {
-    likeness_code(likeness::alike(edition(a), first, edition(b), second))
+    likeness_code(likeness::alike(edition(a), first, edition(b), other))
 }

@@ -1,4 +1,5 @@
--- What the functions that take a card apart require of it, and the part that they hand on. Nobody else has to know where an edition's parts stand.
+-- What the functions that take a card apart require of it, and the part that they hand on. Of those who read a card nobody else has to know where an
+-- edition's parts stand.
 -- Assumes nothing.
 use mathlib.Core.Path.{_≡_}
 use mathlib.Core.List.{List}

@@ -3,7 +3,7 @@
 // makes of a card, its faults with their numbers, the part that the columns stand in, the card reader, one
 // column out of the bytes, the tests of counts and columns that the card writer shares, and the test of a
 // strip length, which goes with a card in every call that takes strips. Where the parts of an edition
-// stand, module `editions` knows, and nobody else.
+// stand, those who read a card learn from module `editions` alone.
 //
 // Every byte string is a legal argument of `check` and `read`, in either edition. What is answered for which
 // input is said in flat/specs/Faults.antt.

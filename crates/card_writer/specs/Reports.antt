@@ -1,4 +1,4 @@
--- Document 01's number and values for each case of the card writer's answer.
+-- The documents' number and values for each case of the card writer's answer.
 -- Assumes nothing.
 use mathlib.Core.List.{[]}
 use Rattle.flat.specs.Faults.{Report, accepted, refused}

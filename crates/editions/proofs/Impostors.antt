@@ -2,7 +2,7 @@
 -- Assumes nothing.
 use mathlib.Core.Path.{refl}
 use Rattle.flat.specs.Faults.{cardReport, cardWears, cardWriteReport, cardWriteBuffer}
-use Rattle.editions.specs.Converting.{upBuffer, downReport, downBuffer}
+use Rattle.editions.specs.Converting.{upReport, upBuffer, downReport, downBuffer}
 use Rattle.editions.specs.Impostors.{ReadsInOrder, WritesInOrder, ConvertsInOrder}
 
 pub reads-in-order : ReadsInOrder
@@ -13,6 +13,10 @@ reads-in-order =
       other-first-byte = refl;
       data-before-length = refl;
       no-wears = refl;
+      parity-before-length = refl;
+      length-before-column = refl;
+      greatest-wear = refl;
+      first-parity-before-length = refl;
       column-before-wear = refl;
       zero-wear = refl;
       wears-in-order = refl;
@@ -22,8 +26,8 @@ reads-in-order =
 
 pub writes-in-order : WritesInOrder
 unfolding cardWriteReport cardWriteBuffer
-writes-in-order = record { wears-for-first = refl; too-few-wears = refl; column-before-wear = refl; wear-before-buffer = refl; written = refl }
+writes-in-order = record { wears-for-first = refl; too-few-wears = refl; column-before-wear = refl; wear-before-buffer = refl; any-for-first = refl; too-many-wears = refl; greatest-wear = refl; written = refl }
 
 pub converts-in-order : ConvertsInOrder
-unfolding upBuffer downReport downBuffer
-converts-in-order = record { up = refl; down = refl; lossy-last = refl; lossy = refl }
+unfolding upReport upBuffer downReport downBuffer
+converts-in-order = record { up = refl; down = refl; up-buffer = refl; lossy-last = refl; lossy = refl }

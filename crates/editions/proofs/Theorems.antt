@@ -1,23 +1,22 @@
 -- The theorems about the two editions, and the converter's.
 -- Assumes nothing.
 use mathlib.Core.Path.{_≡_, refl, sym, ap, ap₂, _∙_, subst}
-use mathlib.Core.Bool.{Bool, true, false, not, _&&_}
-use mathlib.Core.List.{List, []}
+use mathlib.Core.Bool.{true}
+use mathlib.Core.List.{List, [], _∷_, _++_}
 use Prim.Native.Nat.{ℕ, _+_, _<_}
 use native.Mathlib.Omega.{arith}
-use lib.Dec.{eqb}
 use lib.ListN.{length, getD}
 use lib.Seq.{getD-drop}
-use Rattle.gf2.specs.If.{if_then_else_}
 use Rattle.flat.specs.declared.Edition.the-variants.{First, Second}
 use Rattle.flat.specs.Lists.{padded, member}
 use Rattle.flat.specs.Cards.{Code, Card, editionOne, editionTwo, editionBytes, editionLength, wearCount, start, firstByteOk, cardLength, cardBytes, codeOf, disks, eachWear, wearsOf}
-use Rattle.flat.specs.Faults.{Report, accepted, refused, unlessRefused, codeReport, cardReport, withCard, cardWriteReport, cardWriteBuffer, verdictReport, verdictTests, erasuresReport, erasuresVector, erasuresSlice, listReport, listSlice}
+use Rattle.flat.specs.Faults.{Report, unlessRefused, cardReport, withCard, cardWriteReport, cardWriteBuffer, verdictReport, verdictTests, erasuresReport, erasuresVector, erasuresSlice, equationsTests, equationsReport, equationsSlice, listReport, listSlice}
 use Rattle.flat.specs.Erasures.{erasures, vector}
+use Rattle.flat.specs.Equations.{equations}
 use Rattle.flat.proofs.Reports.{unless-accepted, with-accepted}
 use Rattle.flat.proofs.Editions.{card-accepted, ones-worn, some-wear}
 use Rattle.editions.specs.Converting.{allOne, upReport, upBuffer, downReport, downBuffer}
-use Rattle.editions.specs.Theorems.{FirstRead, FirstWritten, SecondAccepted, OneEdition, OneAnswer, OneCode, Converted, UpConverts, DownConverts, UpAlways, DownWhenOne, DownAfterUp, UpAfterDown}
+use Rattle.editions.specs.Theorems.{FirstRead, FirstWritten, SecondRead, SecondWritten, SecondAccepted, OneEdition, OneAnswer, OneCode, Converted, UpConverts, DownConverts, UpAlways, DownWhenOne, DownAfterUp, UpAfterDown}
 use Rattle.editions.proofs.Apart as apart
 use Rattle.editions.proofs.Converted as converted
 
@@ -28,17 +27,14 @@ unfolding cardReport start firstByteOk editionLength wearsOf eachWear
 first-read card = (simp (ones-worn (disks (codeOf (editionOne card)))) refl, refl)
 
 pub first-written : FirstWritten
-unfolding cardWriteReport cardWriteBuffer wearCount editionLength editionBytes member
-first-written C buffer = (
-  ap (λ (b : Bool). codeReport C b (if not (eqb (length buffer) (cardLength (C .m))) then refused 7 [] else accepted [])) (and-true (eqb (length (C .columns)) (C .m))),
-  λ e. unless-accepted (cardWriteReport First C [] (length buffer)) [] (cardBytes C) buffer e,
-)
-  where
-    and-true : (b : Bool) → (b && true) ≡ b
-    and-true true = refl
-    and-true false = refl
+unfolding cardWriteReport cardWriteBuffer wearCount editionLength editionBytes
+first-written C wears buffer = (refl, λ e. unless-accepted (cardWriteReport First C wears (length buffer)) [] (cardBytes C) buffer e)
 
 -- ---- edition 2
+
+pub second-written : SecondWritten
+unfolding cardWriteReport cardWriteBuffer wearCount editionLength editionBytes
+second-written C wears buffer = (refl, λ e. unless-accepted (cardWriteReport Second C wears (length buffer)) [] (2 ∷ cardBytes C ++ wears) buffer e)
 
 pub second-accepted : SecondAccepted
 unfolding editionBytes editionLength
@@ -71,14 +67,20 @@ module _ (card other : Card) (p : cardReport card .number ≡ 0) (q : cardReport
   unfolding erasuresReport
   counts n = any (λ C. listReport (erasures C) n)
 
+  told : (d n : ℕ) → equationsReport card d n ≡ equationsReport other d n
+  unfolding equationsReport
+  told d n = any (λ C. equationsTests C d n)
+
   one-answer : OneAnswer card other
-  unfolding verdictReport erasuresVector erasuresSlice
+  unfolding verdictReport erasuresVector erasuresSlice equationsSlice
   one-answer =
       record {
         verdict = λ S. any (λ C. verdictTests C S);
         count = counts;
         vector = λ n. ap₂ (λ (r : Report) (C : Code). padded 17 (unlessRefused r (vector C) [])) (counts n) same;
         entries = λ slice. ap₂ (λ (r : Report) (C : Code). unlessRefused r (listSlice (erasures C) slice) slice) (counts (length slice)) same;
+        equation-count = told;
+        equations = λ d slice. ap₂ (λ (r : Report) (C : Code). unlessRefused r (listSlice (equations C d) slice) slice) (told d (length slice)) same;
         any = any;
       }
 
@@ -137,3 +139,7 @@ up-after-down card buffer back b e n =
       unless-accepted (upReport new (length back)) [] _ back accepts
           ∙ ap₂ (editionBytes Second) (c .same-code) (c .same-wears ∙ converted.read-own card ok) ∙ converted.again (editionTwo card) ok b,
     )
+
+pub second-read : SecondRead
+unfolding cardReport start firstByteOk editionLength
+second-read card = refl

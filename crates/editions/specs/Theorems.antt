@@ -3,16 +3,16 @@
 -- Assumes nothing.
 use mathlib.Core.Path.{_≡_}
 use mathlib.Core.Logic.{_≢_}
-use mathlib.Core.Bool.{not}
+use mathlib.Core.Bool.{not, _&&_}
 use mathlib.Core.List.{List, [], _∷_, _++_}
 use Prim.Native.Nat.{ℕ, _+_, _*_, _≤_, _<_}
 use lib.Dec.{eqb, ltb}
 use lib.ListN.{length, getD, replicate}
 use Rattle.gf2.specs.If.{if_then_else_}
 use Rattle.flat.specs.declared.Edition.the-variants.{First, Second}
-use Rattle.flat.specs.Lists.{Bytes}
+use Rattle.flat.specs.Lists.{Bytes, member}
 use Rattle.flat.specs.Cards.{Code, cardLength, cardBytes, Card, editionOne, editionTwo, editionLength, codeOf, disks, wearsOf}
-use Rattle.flat.specs.Faults.{Report, accepted, refused, codeReport, cardReport, withCard, cardWriteReport, cardWriteBuffer, verdictReport, erasuresReport, erasuresVector, erasuresSlice}
+use Rattle.flat.specs.Faults.{Report, accepted, refused, codeReport, cardReport, withCard, cardWriteReport, cardWriteBuffer, verdictReport, erasuresReport, erasuresVector, erasuresSlice, equationsReport, equationsSlice}
 use Rattle.editions.specs.Converting.{upReport, upBuffer, downReport, downBuffer}
 
 -- ---- edition 1 is what document 01 has it to be
@@ -26,15 +26,36 @@ FirstRead =
     ≡ (if ltb (length card) 2 then refused 1 [] else codeReport C (eqb (length card) (cardLength (C .m))) (accepted (C .k ∷ C .m ∷ []))))
     × (wearsOf (editionOne card) ≡ replicate (disks C) 1)
 
--- The card writer, given no wears, has the tests 2 to 5 and 7, and writes k, m and the columns.
+-- The card writer has the tests 2 to 5, of which 4 refuses each wear that it is given, and 7 (so 23 never comes), and writes k, m and the columns.
 abbrev pub FirstWritten : Type 0
 FirstWritten =
-    (C : Code) (buffer : List ℕ)
-    → (cardWriteReport First C [] (length buffer)
-    ≡ codeReport C (eqb (length (C .columns)) (C .m)) (if not (eqb (length buffer) (cardLength (C .m))) then refused 7 [] else accepted []))
-    × (cardWriteReport First C [] (length buffer) ≡ accepted [] → cardWriteBuffer First C [] buffer ≡ cardBytes C)
+    (C : Code) (wears buffer : List ℕ)
+    → (cardWriteReport First C wears (length buffer)
+    ≡ codeReport C (eqb (length (C .columns)) (C .m) && eqb (length wears) 0)
+    (if member 0 wears then refused 23 [] else if not (eqb (length buffer) (cardLength (C .m))) then refused 7 [] else accepted []))
+    × (cardWriteReport First C wears (length buffer) ≡ accepted [] → cardWriteBuffer First C wears buffer ≡ cardBytes C)
 
 -- ---- edition 2
+
+-- The card reader's tests are 1, 22, 2 to 5 and 23.
+abbrev pub SecondRead : Type 0
+SecondRead =
+    (card : List ℕ)
+    → let C = codeOf (editionTwo card) in
+    cardReport (editionTwo card)
+    ≡ (if ltb (length card) 3 then refused 1 [] else
+    if not (eqb (getD card 0 0) 2) then refused 22 [] else
+    codeReport C (eqb (length card) (3 + 2 * C .m + disks C))
+    (if member 0 (wearsOf (editionTwo card)) then refused 23 [] else accepted (C .k ∷ C .m ∷ [])))
+
+-- The card writer's are 2 to 5, of which 4 refuses a list of other than n wears, 23 and 7, and it writes the byte 0x02, k, m, the columns and the wears.
+abbrev pub SecondWritten : Type 0
+SecondWritten =
+    (C : Code) (wears buffer : List ℕ)
+    → (cardWriteReport Second C wears (length buffer)
+    ≡ codeReport C (eqb (length (C .columns)) (C .m) && eqb (length wears) (disks C))
+    (if member 0 wears then refused 23 [] else if not (eqb (length buffer) (3 + 2 * C .m + disks C)) then refused 7 [] else accepted []))
+    × (cardWriteReport Second C wears (length buffer) ≡ accepted [] → cardWriteBuffer Second C wears buffer ≡ 2 ∷ cardBytes C ++ wears)
 
 -- An accepted card is a byte 0x02, then k, m, the columns, then a wear of 1 to 255 for each disk, 3 + 2m + n bytes.
 pub record SecondLaid (card : List ℕ) : Type 0 where
@@ -55,12 +76,15 @@ OneEdition = (card : List ℕ) → cardReport (editionOne card) .number ≡ 0 �
 
 -- ---- list and verdict depend on k, m and columns only
 
--- Accepted cards of any editions with one code get one answer of each call that looks at the code alone: one verdict and one list.
+-- Accepted cards of any editions with one code get one answer of each call that looks at the code alone: one verdict, one list of minimal erasures
+-- and one list of the equations of each disk.
 pub record OneAnswer (card other : Card) : Type 0 where
   pub verdict : (S : ℕ) → verdictReport card S ≡ verdictReport other S
   pub count : (n : ℕ) → erasuresReport card n ≡ erasuresReport other n
   pub vector : (n : ℕ) → erasuresVector card n ≡ erasuresVector other n
   pub entries : (slice : List ℕ) → erasuresSlice card slice ≡ erasuresSlice other slice
+  pub equation-count : (d n : ℕ) → equationsReport card d n ≡ equationsReport other d n
+  pub equations : (d : ℕ) (slice : List ℕ) → equationsSlice card d slice ≡ equationsSlice other d slice
   pub any : (answer : Code → Report) → withCard card answer ≡ withCard other answer
 
 abbrev pub OneCode : Type 0

@@ -7,7 +7,7 @@ use lib.Dec.{eqb, eqb·suc-zero}
 use Rattle.gf2.specs.If.{if_then_else_}
 use Rattle.flat.specs.Faults.{unlessRefused}
 use Rattle.export_bounds.specs.Coded.{value, codedFault}
-use Rattle.export_bounds.specs.Theorems.{CodedDecodes, FaultDecodes, ReportsFit}
+use Rattle.export_bounds.specs.Theorems.{CodedDecodes, FaultDecodes, EditionNamed, ReportsFit}
 use Rattle.export_bounds.proofs.Values.{card-fits, card-write-fits, encode-fits, verdict-fits, erasures-fits, alike-fits, equations-fits, rebuild-fits}
 use Rattle.export_bounds.proofs.RecordValues.{record-write-fits, record-fits, body-fits}
 use Rattle.export_bounds.proofs.TrayValues.{tray-fits}
@@ -28,6 +28,9 @@ fault-decodes r h = go (r .number) (value r) h
         → ((if eqb n 0 then 0 else n + 256 * v) % 256 ≡ n) × ((if eqb n 0 then 0 else n + 256 * v) / 256 ≡ (if eqb n 0 then 0 else v))
     go zero v l = (refl, refl)
     go (suc n) v l = rw (eqb·suc-zero n) (omega arith, omega arith)
+
+pub edition-named : EditionNamed
+edition-named = (refl, refl)
 
 pub reports-fit : ReportsFit
 reports-fit = record {

@@ -1,10 +1,12 @@
 -- What a caller in C may rely on, in plain words above each statement. The proofs are those of proofs/Theorems.antt.
 -- Assumes nothing.
 use mathlib.Core.Path.{_≡_}
+use mathlib.Core.Bool.{true, false}
 use mathlib.Core.List.{List}
 use Prim.Native.Nat.{ℕ, _-_, _/_, _%_, _^_, _≤_, _<_}
 use lib.ListN.{length}
 use Rattle.flat.specs.declared.Edition.{Edition}
+use Rattle.flat.specs.declared.Edition.the-variants.{First, Second}
 use Rattle.flat.specs.Cards.{Code, Card, disks}
 use Rattle.flat.specs.Erasures.{erasures}
 use Rattle.flat.specs.Equations.{equations}
@@ -16,7 +18,7 @@ use Rattle.partial_rebuilding.specs.Faults.{partialReport}
 use Rattle.wear.specs.Wear.{leastWearReport}
 use Rattle.editions.specs.Converting.{upReport, downReport}
 use Rattle.stepped_codes.specs.Faults.{steppedReport}
-use Rattle.export_bounds.specs.Coded.{value, coded, codedFault, Fits}
+use Rattle.export_bounds.specs.Coded.{value, coded, codedFault, named, Fits}
 
 -- The one number tells both: its low 8 bits are the report's number, and the rest is the value.
 abbrev pub CodedDecodes : Type 0
@@ -47,6 +49,10 @@ pub record ReportsFit : Type 0 where
   pub update : (card : Card) (L n d p : ℕ) → Fits (updateReport card L n d p)
   pub partial-rebuild : (card : Card) (L S : ℕ) (stripe : List ℕ) → Fits (partialReport card L S stripe)
   pub stepped-card : (d m k n : ℕ) → Fits (steppedReport d m k n)
+
+-- A yes names the second edition, and a no the first.
+abbrev pub EditionNamed : Type 0
+EditionNamed = (named true ≡ Second) × (named false ≡ First)
 
 -- The minimal erasures are fewer than the data words.
 abbrev pub ErasuresFew : Type 0

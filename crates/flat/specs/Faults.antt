@@ -1,4 +1,5 @@
--- Document 01, "Faults by their source": what each call answers, and what it leaves in a lent buffer, for every input.
+-- Document 01, "Faults by their source", with the numbers 22 and 23 of document 02, request [10]: what each call answers, and what it leaves in a lent buffer,
+-- for every input.
 -- The tests of a call stand in the document's order.
 -- Assumes nothing.
 use mathlib.Core.Bool.{Bool, not, _&&_}

@@ -35,7 +35,7 @@ use Rattle.text.specs.Text.{codeWord, vectorWord, refusedWord, listingText, ref
 use Rattle.text.specs.Answers.{textAnswer, textBuffer}
 use Rattle.text.proofs.Lengths.{entry-most, line-most, length-listing}
 use Rattle.render.specs.Printed.{printed, shownPart}
-use Rattle.render.specs.Theorems.{longest, PrintedShort, PrintedWhole}
+use Rattle.render.specs.Theorems.{longest, PrintedShort, PrintedWhole, EditionKept}
 
 -- ---- a listing
 
@@ -115,3 +115,9 @@ printed-whole card buffer n h =
     let l : length t ≤ length buffer = omega (arith, printed-most card n) in
     let m : length t ≤ length (t ++ drop (length t) buffer) = omega (arith, length-append t (drop (length t) buffer)) in
     simp (le-leb (length t) (length buffer) l, le-leb (length t) (length (t ++ drop (length t) buffer)) m) (take-at t (drop (length t) buffer) (length t) refl)
+
+-- ---- edition 1
+
+pub edition-kept : EditionKept
+unfolding printed
+edition-kept = (refl, refl)

@@ -13,7 +13,7 @@ use Rattle.flat.specs.Erasures.{survivors, fatal}
 use Rattle.flat.specs.Equations.{equation, equations}
 use Rattle.flat.proofs.Members.{In}
 use Rattle.flat.proofs.Duality.{equation-out}
-use Rattle.wear.specs.Wear.{totalWear, lostWith, leastWearTests}
+use Rattle.wear.specs.Wear.{totalWear, lostWith, leastWearTests, leastWearReport}
 use Rattle.wear.specs.Impostors as Impostors
 use Rattle.wear.specs.Impostors.{pair, worn, tied}
 use Rattle.wear.proofs.Left.{listed-equation}
@@ -33,6 +33,10 @@ values =
       set-first = refl;
       disk-next = refl;
     }
+
+pub called : Impostors.Called
+unfolding leastWearReport
+called = record { own-wears = refl; ones = refl; lost = refl; none = refl; card-first = refl }
 
 pub wrong-values : Impostors.WrongValues
 unfolding Impostors.bySize Impostors.byNeighbour Impostors.byLast Impostors.byItself

@@ -1,16 +1,17 @@
 -- The statements of specs/Theorems.antt: the call past its tests, and what the other files prove of it.
 -- Assumes nothing.
-use mathlib.Core.Path.{_≡_, sym, _∙_}
+use mathlib.Core.Path.{_≡_, sym, _∙_, subst}
 use mathlib.Core.Bool.{not}
 use mathlib.Core.List.{List, [], _∷_}
 use Prim.Native.Nat.{ℕ, _<_}
-use borrow.Author.Tests.{lt-ltb}
+use borrow.Author.Tests.{lt-ltb, le-ltb}
 use lib.Dec.{T, ltb}
 use lib.ListN.{getD}
-use Rattle.gf2.proofs.Tests.{T-true}
-use Rattle.flat.specs.Cards.{Code, disks, setOk}
-use Rattle.flat.proofs.Reports.{passed}
-use Rattle.wear.specs.Wear.{totalWear, equationsLeft, leastReport, leastWearTests}
+use Rattle.gf2.proofs.Tests.{T-true, T-false}
+use Rattle.flat.specs.Cards.{Code, codeOf, disks, setOk, wearsOf}
+use Rattle.flat.specs.Faults.{Report, cardReport, withCard}
+use Rattle.flat.proofs.Reports.{passed, unless-number, unless-not, with-out}
+use Rattle.wear.specs.Wear.{totalWear, equationsLeft, leastReport, leastWearTests, leastWearReport}
 use Rattle.wear.specs.Theorems as Theorems
 use Rattle.wear.proofs.Sums.{over-empty, over-plus}
 use Rattle.wear.proofs.Left as lefts
@@ -62,3 +63,20 @@ best-is-least C ws d S E worn s l t q best = past-tests C ws d S s l ∙ least.b
 
 pub others-by-words : Theorems.OthersByWords
 others-by-words = lefts.others-by-words
+
+-- ---- the call with a card
+
+pub least-wear-answered : Theorems.LeastWearAnswered
+unfolding leastWearReport withCard leastWearTests
+least-wear-answered card d S =
+    let C = codeOf card in
+    let ws = wearsOf card in
+    let r = cardReport card in
+    let is : r .number ≡ 0 → leastWearReport card d S ≡ leastWearTests C ws d S = λ ok. unless-number r (leastWearTests C ws d S) r ok in
+    record {
+      card-refused = λ f. unless-not r (leastWearTests C ws d S) r f;
+      outside = λ ok f. is ok ∙ simp (T-false {b = setOk C S} f);
+      no-disk = λ ok s l. is ok ∙ simp (T-true {b = setOk C S} s, le-ltb d (disks C) l);
+      least = λ E e. least-given C ws d S E (with-out card (E ∷ []) (λ D. leastWearTests D ws d S) e .1);
+      eleven = λ ok s l. subst (λ (x : Report). Theorems.ElevenAt x C d S) (sym (is ok)) (eleven-exactly C ws d S s l);
+    }

@@ -8,11 +8,11 @@ use lib.Dec.{T, ltb}
 use lib.ListN.{getD}
 use Rattle.gf2.specs.If.{if_then_else_}
 use Rattle.gf2.specs.Sets.{has, size, _⊆_}
-use Rattle.flat.specs.Cards.{Code, code, disks}
+use Rattle.flat.specs.Cards.{Code, code, disks, editionOne, editionTwo}
 use Rattle.flat.specs.Erasures.{survivors, fatal}
 use Rattle.flat.specs.Equations.{equations}
 use Rattle.flat.specs.Faults.{Report, accepted, refused}
-use Rattle.wear.specs.Wear.{sumOver, totalWear, lostWith, equationsLeft, leastReport, leastWearTests}
+use Rattle.wear.specs.Wear.{sumOver, totalWear, lostWith, equationsLeft, leastReport, leastWearTests, leastWearReport}
 use Rattle.wear.specs.Theorems.{Least, Eleven}
 
 -- two data disks, and parity disks of both and of disk 0: disk 0 has the equations 8 = {3} and 6 = {1, 2}
@@ -39,6 +39,17 @@ pub record Values : Type 0 where
   -- the set is tested before the disk
   pub set-first : leastWearTests pair worn 4 16 ≡ refused 8 []
   pub disk-next : leastWearTests pair worn 4 15 ≡ refused 9 []
+
+-- by cards: K, then 8, 9, 11, with the card's own wears, and edition 1 as wear 1
+abbrev pub bytes : ℕ → List ℕ
+bytes w = 2 ∷ 2 ∷ 2 ∷ 3 ∷ 0 ∷ 1 ∷ 0 ∷ 1 ∷ 1 ∷ 1 ∷ w ∷ []
+
+pub record Called : Type 0 where
+  pub own-wears : leastWearReport (editionTwo (bytes 9)) 0 0 ≡ accepted (6 ∷ [])
+  pub ones : leastWearReport (editionOne (2 ∷ 2 ∷ 3 ∷ 0 ∷ 1 ∷ 0 ∷ [])) 0 0 ≡ accepted (8 ∷ [])
+  pub lost : leastWearReport (editionTwo (bytes 9)) 0 2 ≡ accepted (8 ∷ [])
+  pub none : leastWearReport (editionTwo (bytes 9)) 0 10 ≡ refused 11 []
+  pub card-first : leastWearReport (editionTwo (bytes 0)) 4 16 ≡ refused 23 []
 
 -- ---- wrong values
 

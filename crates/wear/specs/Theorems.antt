@@ -10,12 +10,12 @@ use Rattle.gf2.specs.Sets.{has, _⊕_, _⊆_}
 use Rattle.gf2.specs.Span.{InSpan}
 use Rattle.gf2.specs.Within.{within}
 use Rattle.flat.specs.Lists.{member}
-use Rattle.flat.specs.Cards.{Code, disks, setOk}
+use Rattle.flat.specs.Cards.{Code, Card, codeOf, disks, setOk, wearsOf}
 use Rattle.flat.specs.Erasures.{survivors, undetermined}
 use Rattle.flat.specs.Equations.{equation, equations, Precedes}
 use Rattle.flat.specs.Spans.{checks}
-use Rattle.flat.specs.Faults.{Report, accepted, refused}
-use Rattle.wear.specs.Wear.{totalWear, lostWith, equationsLeft, leastWearTests}
+use Rattle.flat.specs.Faults.{Report, accepted, refused, cardReport}
+use Rattle.wear.specs.Wear.{totalWear, lostWith, equationsLeft, leastWearTests, leastWearReport}
 
 -- ---- the words of the request
 
@@ -87,6 +87,19 @@ WornAlike =
     (C : Code) (wears : List ℕ) (w d S E : ℕ) (Es : List ℕ) → ((i : ℕ) → i < disks C → getD wears i 0 ≡ w)
     → T (setOk C S) → d < disks C → equationsLeft C d S ≡ E ∷ Es
     → leastWearTests C wears d S ≡ accepted (E ∷ [])
+
+-- ---- the call with a card
+
+-- What is answered for a card: the card's refusal, then 8, then 9; else what is said above, of the card's code and its wears.
+pub record RightLeastWear (card : Card) (d S : ℕ) : Type 0 where
+  pub card-refused : cardReport card .number ≢ 0 → leastWearReport card d S ≡ cardReport card
+  pub outside : cardReport card .number ≡ 0 → (T (setOk (codeOf card) S) → ⊥) → leastWearReport card d S ≡ refused 8 []
+  pub no-disk : cardReport card .number ≡ 0 → T (setOk (codeOf card) S) → disks (codeOf card) ≤ d → leastWearReport card d S ≡ refused 9 []
+  pub least : (E : ℕ) → leastWearReport card d S ≡ accepted (E ∷ []) → Least (codeOf card) (wearsOf card) d S E
+  pub eleven : cardReport card .number ≡ 0 → T (setOk (codeOf card) S) → d < disks (codeOf card) → ElevenAt (leastWearReport card d S) (codeOf card) d S
+
+abbrev pub LeastWearAnswered : Type 0
+LeastWearAnswered = (card : Card) (d S : ℕ) → RightLeastWear card d S
 
 -- ---- what code goes by
 
