@@ -58,7 +58,7 @@ enum bridgecrumb_number {
     BRIDGECRUMB_NEW_LENGTH = 19,   /* a new strip of another length than the strips */
     BRIDGECRUMB_DISTANCE = 20,     /* a distance that is neither 3 nor 4 */
     BRIDGECRUMB_BOUNDS = 21,       /* k outside the bounds for the distance and m */
-    BRIDGECRUMB_EDITION = 22,      /* a card of edition 2 with another first byte than 0x02 */
+    BRIDGECRUMB_FIRST_BYTE = 22,   /* a card of edition 2 with another first byte than 0x02 */
     BRIDGECRUMB_ZERO_WEAR = 23,    /* a wear of 0 */
     BRIDGECRUMB_LOSSY = 24         /* a wear that is not 1, where a card is to become one of edition 1 */
 };
