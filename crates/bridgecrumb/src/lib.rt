@@ -4,7 +4,8 @@
 // An answer is one number: the report's number, 0 where the call is accepted, and 256 times the value
 // that the report names, if it names one; so its low 8 bits tell whether the call is refused. Where an
 // accepted call names several, they go into arrays that the caller lends. A slice is passed as a pointer
-// and a count. A card has its edition before it: `second` says that it is the second. Every byte string, set and slice is a legal argument.
+// and a count. A card has its edition before it: `second` says that it is the second. Every byte string,
+// set and slice is a legal argument.
 ghost use mathlib.Core.Path.{_≡_};
 ghost use lib.ListN.{length};
 ghost use Rattle.flat.specs.Cards.{cardOf};
