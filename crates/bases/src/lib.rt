@@ -2,6 +2,8 @@
 // a code are questions about the spans of these (flat/specs/Theorems.antt).
 //
 // The columns are those of an accepted card.
+#![tactic(auto)]
+
 ghost use Rattle.std.specs.Prelude.{◌≡◌, ◌<◌, take};
 ghost use Rattle.flat.specs.Cards.{code_in};
 ghost use Rattle.flat.specs.Checks.{row};

@@ -6,6 +6,8 @@
 // accepted call names several, they go into arrays that the caller lends. A slice is passed as a pointer
 // and a count. A card has its edition before it: `second` says that it is the second. Every byte string,
 // set and slice is a legal argument.
+#![tactic(auto)]
+
 ghost use Rattle.std.specs.Prelude.{◌≡◌, length};
 ghost use Rattle.flat.specs.Cards.{card_of};
 ghost use Rattle.flat.specs.Faults.{unless_refused, encode_report, encode_stripe, verdict_report, erasures_report, erasures_vector, erasures_slice, equations_report, equations_slice, rebuild_report, rebuild_stripe};

@@ -1,6 +1,8 @@
 // Tests of the calls that judge and list: the listing of a card, the undetermined disks of a set and the equations of a disk, for document 01's
 // worked codes, the chain code of document 002, IV-B, a dense code, and each refusal. What it must write was derived by
 // tests/calls_test.py.
+#![tactic(auto)]
+
 use card::{CardFault, Edition};
 use equations::Told;
 use libc::STDOUT_FILENO;

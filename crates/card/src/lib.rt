@@ -7,6 +7,8 @@
 //
 // Every byte string is a legal argument of `check` and `read`, in either edition. What is answered for which
 // input is said in flat/specs/Faults.antt.
+#![tactic(auto)]
+
 ghost use Rattle.std.specs.Prelude.{◌≡◌, ◌+◌, ◌*◌, ◌<◌, ◌≤◌, length, get_or};
 ghost use Rattle.flat.specs.Lists.{padded, field};
 ghost use Rattle.flat.specs.Cards.{count_ok, column_ok, first_bad, columns_in, card_of};

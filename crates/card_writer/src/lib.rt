@@ -2,6 +2,8 @@
 //
 // Every number, list and buffer is a legal argument of `write`. What is answered for which input is said
 // in flat/specs/Faults.antt.
+#![tactic(auto)]
+
 ghost use Rattle.std.specs.Prelude.{◌≡◌, [], ◌+◌, ◌*◌, ◌≤◌, length};
 ghost use Rattle.flat.specs.Lists.{each, bytes, put};
 ghost use Rattle.flat.specs.Cards.{code, edition_bytes, edition_length, wear_count};

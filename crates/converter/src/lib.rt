@@ -3,6 +3,8 @@
 //
 // Every byte string and buffer is a legal argument. What is answered for which input is said in
 // editions/specs/Converting.antt.
+#![tactic(auto)]
+
 ghost use Rattle.std.specs.Prelude.{◌≡◌, length};
 ghost use Rattle.editions.specs.Converting.{all_one, up_report, up_buffer, down_report, down_buffer};
 ghost use Rattle.converter.specs.Reports.{report};

@@ -2,6 +2,8 @@
 // The writer of records puts each part of a record by them.
 //
 // Assumes that the run has room at its place, as each contract says.
+#![tactic(auto)]
+
 ghost use Rattle.std.specs.Prelude.{◌≡◌, ◌+◌, ◌≤◌, length};
 ghost use Rattle.flat.specs.Lists.{put};
 

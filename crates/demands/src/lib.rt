@@ -1,1 +1,2 @@
 // The three demands that stand over every call, each as one statement (specs/), and their proofs. No code.
+#![tactic(auto)]

@@ -7,6 +7,8 @@
 //
 // Every byte string, number and stripe is a legal argument. What is answered for which input is said in
 // flat/specs/Faults.antt.
+#![tactic(auto)]
+
 ghost use Rattle.std.specs.Prelude.{◌≡◌, ℕ, ◌+◌, ◌*◌, ◌<◌, ◌≤◌, length, get_or};
 ghost use Rattle.gf2.specs.Sets.{bit};
 ghost use Rattle.flat.specs.Lists.{tabulate, put, field};

@@ -3,6 +3,8 @@
 //
 // Every byte string, disk and slice is a legal argument. What is answered for which input is said in
 // flat/specs/Faults.antt.
+#![tactic(auto)]
+
 ghost use Rattle.std.specs.Prelude.{◌≡◌, ◌+◌, ◌≤◌, ◌<◌, length};
 ghost use Rattle.flat.specs.Cards.{code_in, card_of};
 ghost use Rattle.flat.specs.Equations.{equations};

@@ -2,6 +2,8 @@
 //
 // Every byte string and slice is a legal argument. What is answered for which input is said in
 // flat/specs/Faults.antt.
+#![tactic(auto)]
+
 ghost use Rattle.std.specs.Prelude.{◌≡◌, [], ◌+◌, ◌*◌, ◌≤◌, length, get_or};
 ghost use Rattle.flat.specs.Lists.{padded, tabulate};
 ghost use Rattle.flat.specs.Cards.{code_in, card_of};

@@ -3,6 +3,8 @@
 // on cards, sets and stripes, in module records those of the calls on record files.
 //
 // Every function assumes that the report fits: its value is below 2 ^ 32, so that both fit into 64 bits.
+#![tactic(auto)]
+
 ghost use Rattle.std.specs.Prelude.{◌≡◌, [], ◌∷◌};
 ghost use Rattle.flat.specs.Faults.{refused};
 ghost use Rattle.card.specs.Reports.{fault_report};

@@ -2,6 +2,8 @@
 // rows are added by XOR.
 //
 // The contracts cite specs/; what `within` means is said in specs/Theorems.antt.
+#![tactic(auto)]
+
 ghost use Rattle.std.specs.Prelude.{◌≡◌, not, map, ◌≢◌, ◌%◌, ◌^◌, ◌≤◌, ◌<◌, ltb, take};
 ghost use Rattle.gf2.specs.If.{if◌then◌else◌};
 ghost use Rattle.gf2.specs.Sets.{has, size, first, set_of, ◌⊆◌, ◌∖◌, union};

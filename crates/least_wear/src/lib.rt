@@ -4,6 +4,8 @@
 // wear/specs/Wear.antt. No list is made: one equation, XORed with each check
 // word among the survivors, gives them all (`OthersByWords` in wear/specs/Theorems.antt), and one that none goes before has
 // no smaller one inside (`BestIsLeast`).
+#![tactic(auto)]
+
 ghost use Rattle.std.specs.Prelude.{◌≡◌, ℕ, ◌+◌, ◌^◌, ◌≤◌, ◌<◌, min, length, get_or, take, replicate};
 ghost use Rattle.gf2.specs.Sets.{◌⊕◌};
 ghost use Rattle.gf2.specs.Span.{select};

@@ -3,6 +3,8 @@
 //
 // Every two byte strings, in either edition, are legal arguments. What alike means is said in flat/specs/Alike.antt, and what
 // is answered for which input in flat/specs/Faults.antt.
+#![tactic(auto)]
+
 ghost use Rattle.std.specs.Prelude.{◌≡◌, ℕ, ◌+◌, ◌*◌, ◌≤◌, eqb, length};
 ghost use Rattle.flat.specs.Cards.{code_in, card_of};
 ghost use Rattle.flat.specs.Alike.{rearranged};

@@ -1,6 +1,8 @@
 // The listing program: a card from standard input, its list of minimal erasures to standard output.
 //
 // The buffer holds every text, by `PrintedWhole` of crate render, so what is printed is the whole.
+#![tactic(auto)]
+
 ghost use Rattle.std.specs.Prelude.{◌≡◌};
 ghost use Rattle.render.specs.Printed.{printed};
 

@@ -1,4 +1,6 @@
 // The minimal words of a span, one candidate for each number that selects rows.
+#![tactic(auto)]
+
 ghost use Rattle.std.specs.Prelude.{◌≡◌, ◌≢◌, ℕ, ◌^◌, ◌≤◌, ◌<◌, eqb, length, take};
 ghost use Rattle.gf2.specs.Span.{select};
 ghost use Rattle.gf2.specs.Within.{within};

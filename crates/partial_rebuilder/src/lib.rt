@@ -4,6 +4,8 @@
 // Every byte string, length, set and stripe is a legal argument. What is answered for which input, and
 // what is left in the stripe, is said in partial_rebuilding/specs/Faults.antt. No byte is written before every
 // refusal is decided.
+#![tactic(auto)]
+
 ghost use Rattle.std.specs.Prelude.{◌≡◌, ◌+◌, ◌*◌, ◌^◌, ◌<◌, ◌≤◌, length};
 ghost use Rattle.flat.specs.Cards.{code_in, card_of};
 ghost use Rattle.flat.specs.Erasures.{undetermined_set, determined_set};

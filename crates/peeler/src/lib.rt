@@ -3,6 +3,8 @@
 //
 // The columns are those of an accepted card, and the stripe has as many bytes as the code's strips. What a step
 // is, and what all of them do, is said in peeling/specs/Peeling.antt.
+#![tactic(auto)]
+
 ghost use Rattle.std.specs.Prelude.{◌≡◌, ℕ, ◌+◌, ◌*◌, ◌≤◌, T, length};
 ghost use Rattle.gf2.specs.Sets.{has, ◌∖◌};
 ghost use Rattle.flat.specs.Cards.{code_in};

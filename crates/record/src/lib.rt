@@ -4,6 +4,8 @@
 //
 // Every byte string, number and buffer is a legal argument. A record's layout is said in
 // record_format/specs/Records.antt, and what is answered for which input in record_format/specs/Faults.antt.
+#![tactic(auto)]
+
 mod bodies;
 
 pub use bodies::{BodyCheck, BodyPlace, body, body_check, body_place};

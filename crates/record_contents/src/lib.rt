@@ -3,6 +3,8 @@
 //
 // A record's layout is said in record_format/specs/Records.antt. `start` is everywhere where the first strip's
 // body goes, after contents and card. Each contract says what is assumed of the arguments.
+#![tactic(auto)]
+
 ghost use Rattle.std.specs.Prelude.{◌≡◌, ◌+◌, ◌*◌, ◌%◌, ◌<◌, ◌≤◌, ◌++◌, length, take, drop};
 ghost use Rattle.flat.specs.Lists.{bytes, field, same};
 ghost use Rattle.flat.specs.Cards.{card_length};

@@ -2,6 +2,8 @@
 //
 // Every byte string is a legal argument. A record's layout is said in record_format/specs/Records.antt, and what
 // is answered for which input in record_format/specs/Faults.antt.
+#![tactic(auto)]
+
 ghost use Rattle.std.specs.Prelude.{◌≡◌};
 ghost use Rattle.record_format.specs.Faults.{record_report, record_columns};
 ghost use Rattle.record_reader.specs.Reports.{report};

@@ -3,6 +3,8 @@
 //
 // Every byte string, number and buffer is a legal argument of `write`. A record's layout is said in
 // record_format/specs/Records.antt, and what is answered for which input in record_format/specs/Faults.antt.
+#![tactic(auto)]
+
 ghost use Rattle.std.specs.Prelude.{◌≡◌, [], ◌+◌, ◌*◌, ◌≤◌, eqb, length};
 ghost use Rattle.flat.specs.Cards.{code};
 ghost use Rattle.flat.specs.Faults.{unless_refused};

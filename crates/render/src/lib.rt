@@ -2,6 +2,8 @@
 //
 // The text is that of specs/Printed.antt; how long a buffer holds it whole stands in specs/Theorems.antt.
 // Assumes nothing.
+#![tactic(auto)]
+
 ghost use Rattle.std.specs.Prelude.{◌≡◌, [], ◌∷◌, length};
 ghost use Rattle.flat.specs.Cards.{edition_one};
 ghost use Rattle.flat.specs.Faults.{accepted, card_report, erasures_slice};

@@ -4,6 +4,8 @@
 //
 // What these are is said in flat/specs: Erasures, Spans and Repairs, with the theorems of Theorems and
 // Rebuilt.
+#![tactic(auto)]
+
 ghost use Rattle.std.specs.Prelude.{◌≡◌, ◌&&◌, ◌<◌, ◌≤◌, ltb, take};
 ghost use Rattle.gf2.specs.If.{if◌then◌else◌};
 ghost use Rattle.gf2.specs.Sets.{has, union};

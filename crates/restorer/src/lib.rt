@@ -4,6 +4,8 @@
 //
 // The card is accepted before. What the survivors tell is found on sets (crate repairs); the strips are read and
 // written by these sets alone (crate strips).
+#![tactic(auto)]
+
 ghost use Rattle.std.specs.Prelude.{◌≡◌, List, ℕ, ◌+◌, ◌*◌, ◌^◌, ◌<◌, ◌≤◌, T, length};
 ghost use Rattle.gf2.specs.If.{if◌then◌else◌};
 ghost use Rattle.gf2.specs.Sets.{◌⊆◌};

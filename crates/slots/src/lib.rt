@@ -4,6 +4,8 @@
 //
 // A set of n disks is a number of n bits, and turning rotates it. The turn is r modulo n. What these are is said
 // in turning/specs: Turning and Slots.
+#![tactic(auto)]
+
 ghost use Rattle.std.specs.Prelude.{◌≡◌, ◌&&◌, map, ◌-◌, ◌%◌, ◌^◌, ◌<◌, ◌≤◌, ltb, take};
 ghost use Rattle.gf2.specs.If.{if◌then◌else◌};
 ghost use Rattle.gf2.specs.Sets.{has};

@@ -3,6 +3,8 @@
 //
 // Every number and buffer is a legal argument of `write`. What is answered for which input, and what is left in the
 // buffer, is said in stepped_codes/specs/Faults.antt.
+#![tactic(auto)]
+
 ghost use Rattle.std.specs.Prelude.{◌≡◌, ◌≤◌, ◌<◌, T, length, get_or};
 ghost use Rattle.gf2.specs.Sets.{has};
 ghost use Rattle.flat.specs.Lists.{set_of, padded};

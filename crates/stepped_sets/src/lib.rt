@@ -3,6 +3,8 @@
 // What the parity sets are, and in what order, is said in stepped_codes/specs/Stepped.antt. A row of counts has eight
 // places, so there are at most 7 parity disks; no card is made of more than 6 (`SixAtMost` in
 // stepped_codes/specs/Theorems.antt).
+#![tactic(auto)]
+
 ghost use Rattle.std.specs.Prelude.{◌≡◌, ◌-◌, ◌≤◌, ◌<◌, T, length, replicate};
 ghost use Rattle.flat.specs.Lists.{tabulate, padded};
 ghost use Rattle.stepped_codes.specs.Stepped.{distance_ok, parity_sets, parity_set, choose};

@@ -4,6 +4,8 @@
 //
 // A stripe is here any slice with the strips of n disks in it, l bytes each. Blocks of 16, and all of walking.rt,
 // may reach past their strip's end, not past the slice's.
+#![tactic(auto)]
+
 ghost use Rattle.std.specs.Prelude.{◌≡◌, ◌+◌, ◌-◌, ◌*◌, ◌<◌, ◌≤◌, min, eqb, length, get_or, take};
 ghost use Rattle.gf2.specs.If.{if◌then◌else◌};
 ghost use Rattle.gf2.specs.Sets.{has, ◌⊕◌, over};

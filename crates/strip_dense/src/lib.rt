@@ -3,6 +3,8 @@
 // large, a strip's bytes are read from the stripe once, and not once for each target.
 //
 // It assumes strips of 128 bytes or more, at most 32 disks, and that no strip that is read is a target's.
+#![tactic(auto)]
+
 ghost use Rattle.std.specs.Prelude.{◌≡◌, ◌&&◌, ℕ, ◌+◌, ◌-◌, ◌*◌, ◌/◌, ◌%◌, ◌<◌, ◌≤◌, T, leb, ltb, length, get_or, take, drop};
 ghost use Rattle.gf2.specs.If.{if◌then◌else◌};
 ghost use Rattle.gf2.specs.Sets.{has, over};

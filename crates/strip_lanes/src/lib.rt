@@ -8,6 +8,8 @@
 // product a choice, and the choice a branch. So a bit goes to memory first, 16 times, and is read back as
 // 16 lanes. `% 2` changes none of them; it tells the compiler that each is a bit, and the product becomes
 // one AND.
+#![tactic(auto)]
+
 ghost use Rattle.std.specs.Prelude.{◌≡◌, ◌+◌, ◌*◌, ◌/◌, ◌%◌, ◌<◌, ◌≤◌, length, get_or};
 ghost use Rattle.gf2.specs.Sets.{◌⊕◌};
 ghost use Rattle.flat.specs.Lists.{tabulate, put};

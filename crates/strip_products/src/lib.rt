@@ -1,4 +1,6 @@
 // A data byte times a column's bit: the one product that the encoder is made of.
+#![tactic(auto)]
+
 ghost use Rattle.std.specs.Prelude.{◌≡◌, ◌*◌, ◌≤◌, eqb};
 ghost use Rattle.gf2.specs.If.{if◌then◌else◌};
 

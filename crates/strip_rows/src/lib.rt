@@ -3,6 +3,8 @@
 //
 // A row of the table `bits` has 16 places, bit j for parity disk k + j. In the sums byte t of parity disk
 // k + j stands at place j of row t. What is read, and how often, follows from k, m and l alone.
+#![tactic(auto)]
+
 ghost use Rattle.std.specs.Prelude.{◌≡◌, ℕ, ◌+◌, ◌*◌, ◌/◌, ◌%◌, ◌<◌, ◌≤◌, length, get_or};
 ghost use Rattle.gf2.specs.Sets.{◌⊕◌};
 ghost use Rattle.flat.specs.Lists.{tabulate, put};

@@ -2,6 +2,8 @@
 // read and how often follow from these alone, and never from a bit or a byte.
 //
 // A row of the table `bits` has 16 places, bit j for parity disk k + j.
+#![tactic(auto)]
+
 ghost use Rattle.std.specs.Prelude.{◌≡◌, ◌&&◌, ◌+◌, ◌*◌, ◌<◌, ◌≤◌, leb, ltb, length};
 ghost use Rattle.flat.specs.Lists.{put};
 ghost use Rattle.strip_products.specs.Products.{Bits, parity_strip, multiplied};

@@ -3,6 +3,8 @@
 //
 // A list of places says where the strips start, l bytes each. It is filled up to a fixed length with pairs
 // of one place, which cancel.
+#![tactic(auto)]
+
 ghost use Rattle.std.specs.Prelude.{◌≡◌, ℕ, ◌+◌, ◌-◌, ◌%◌, ◌<◌, ◌≤◌, eqb, length, get_or};
 ghost use Rattle.flat.specs.Lists.{every, tabulate, put};
 ghost use Rattle.strip_blocks.specs.Totals.{total, xor_at};

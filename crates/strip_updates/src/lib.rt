@@ -5,6 +5,8 @@
 // it. Strips go in blocks of 64 bytes, which stay in the machine's registers, shorter ones in blocks of 16,
 // and those below 16 byte by byte. Where many long strips change, the blocks have 512 bytes, so that each
 // strip is read and written in longer runs.
+#![tactic(auto)]
+
 ghost use Rattle.std.specs.Prelude.{◌≡◌, ℕ, ◌+◌, ◌<◌, ◌≤◌, length, get_or};
 ghost use Rattle.gf2.specs.Sets.{◌⊕◌};
 ghost use Rattle.flat.specs.Lists.{tabulate, put};

@@ -4,6 +4,8 @@
 // blocks of 16; the last block lies over the end of the one before it. Strips of 4 to 15 bytes are first copied
 // to where bytes follow, and go in one block that reaches past them; shorter ones go byte by byte. It assumes
 // strips of at most 65,536 bytes, at most 32 disks, whose strips the slice has, and at most 16 sets.
+#![tactic(auto)]
+
 ghost use Rattle.std.specs.Prelude.{◌≡◌, ◌+◌, ◌*◌, ◌<◌, ◌≤◌, length, take};
 ghost use Rattle.flat.specs.Repairs.{vanishes, all_vanish};
 

@@ -4,6 +4,8 @@
 // blocks of 16; the last block lies over the end of the one before it. Strips of 4 to 15 bytes are first copied
 // to where bytes follow, and go in one block that reaches past them; shorter ones go byte by byte. It assumes at
 // most 32 disks, and that no strip that is read is a target's.
+#![tactic(auto)]
+
 ghost use Rattle.std.specs.Prelude.{◌≡◌, ◌≢◌, ℕ, ◌+◌, ◌*◌, ◌^◌, ◌<◌, ◌≤◌, T, length, get_or};
 ghost use Rattle.gf2.specs.Sets.{has};
 ghost use Rattle.flat.specs.Repairs.{filled};

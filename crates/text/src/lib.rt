@@ -3,6 +3,8 @@
 // Module decimals puts numbers and bytes at a place, module lines the lines. What the text is stands in
 // specs/Text.antt, over the lines of specs/Lines.antt and the numbers of specs/Decimal.antt; what is
 // answered for a buffer stands in specs/Answers.antt. Assumes nothing.
+#![tactic(auto)]
+
 ghost use Rattle.std.specs.Prelude.{◌≡◌, ◌+◌, ◌≤◌, length};
 ghost use Rattle.text.specs.Text.{listing_text, refused_text};
 ghost use Rattle.text.specs.Places.{Put};

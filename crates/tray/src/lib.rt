@@ -3,6 +3,8 @@
 //
 // Every byte string, length, list of sets, budget and tray is a legal argument. What is answered for which
 // input, and what is left in the tray, is said in peeling/specs/Faults.antt.
+#![tactic(auto)]
+
 ghost use Rattle.std.specs.Prelude.{◌≡◌, [], ◌+◌, ◌*◌, ◌^◌, ◌≤◌, ltb, length, get_or, take, drop};
 ghost use Rattle.flat.specs.Lists.{every, padded, put};
 ghost use Rattle.flat.specs.Cards.{code_in, card_of};

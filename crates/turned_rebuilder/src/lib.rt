@@ -3,6 +3,8 @@
 //
 // Every byte string, number, set and stripe is a legal argument. What is answered for which input, and what is
 // left in the stripe, is said in turning/specs/Faults.antt. No byte is written before every refusal is decided.
+#![tactic(auto)]
+
 ghost use Rattle.std.specs.Prelude.{◌≡◌, ◌+◌, ◌*◌, ◌^◌, ◌<◌, ◌≤◌, length};
 ghost use Rattle.gf2.specs.If.{if◌then◌else◌};
 ghost use Rattle.flat.specs.Cards.{code_in, card_of};

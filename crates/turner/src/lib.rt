@@ -2,6 +2,8 @@
 //
 // Every byte string, number, stripe and buffer is a legal argument. What is answered for which input, and what
 // is left in the buffer, is said in turning/specs/Faults.antt.
+#![tactic(auto)]
+
 ghost use Rattle.std.specs.Prelude.{◌≡◌, ◌*◌, ◌≤◌, length};
 ghost use Rattle.flat.specs.Cards.{Code, disks, card_of};
 ghost use Rattle.flat.specs.Faults.{unless_refused};

@@ -3,6 +3,8 @@
 //
 // Every byte string, number, stripe, disk and new strip is a legal argument. What is answered for which
 // input, and what is left in the stripe, is said in updating/specs/Faults.antt.
+#![tactic(auto)]
+
 ghost use Rattle.std.specs.Prelude.{◌≡◌, ℕ, ◌+◌, ◌*◌, ◌<◌, ◌≤◌, length, get_or};
 ghost use Rattle.gf2.specs.Sets.{over};
 ghost use Rattle.flat.specs.Cards.{code_in, card_of};

@@ -2,6 +2,8 @@
 //
 // Every byte string and set is a legal argument. What is answered for which input is said in
 // flat/specs/Faults.antt.
+#![tactic(auto)]
+
 ghost use Rattle.std.specs.Prelude.{◌≡◌};
 ghost use Rattle.flat.specs.Cards.{code_in, card_of};
 ghost use Rattle.flat.specs.Faults.{verdict_tests, verdict_report};

@@ -1,0 +1,10 @@
+-- `gf2::chosen` meets its contract, by the two cases of the test.
+-- Assumes nothing.
+use mathlib.Core.Path.{sym, ◌∙◌}
+use Rattle.gf2.proofs.chosen.Goals as goal
+
+pub returns-then-has : goal.returns-then-has
+returns-then-has c = rw (sym c.has.ensures ∙ c.if-has.true)
+
+pub returns-else-has : goal.returns-else-has
+returns-else-has c = rw (sym c.has.ensures ∙ c.if-has.false)

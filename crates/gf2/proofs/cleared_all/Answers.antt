@@ -1,0 +1,15 @@
+-- `gf2::cleared_all` meets its contract. The loop has mapped the function over the first i rows.
+-- Assumes nothing.
+use mathlib.Core.Path.{refl}
+use borrow.Author.Rules.{rules}
+use Rattle.gf2.proofs.Loops.{mapped-step, mapped_end}
+use Rattle.gf2.proofs.cleared_all.Goals as goal
+
+pub loop-i-init : goal.loop-i-init
+loop-i-init c = (search rules, search rules, refl)
+
+pub loop-i-preserved : goal.loop-i-preserved
+loop-i-preserved c = (search rules, search rules, mapped-step _ _ _ _ _ (search rules) c.loop-i.invariant.2 c.cleared.ensures)
+
+pub returns : goal.returns
+returns c = mapped_end _ c.loop-i.i _ _ c.loop-i.invariant.2 (search rules)
