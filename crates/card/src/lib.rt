@@ -23,7 +23,7 @@ pub use flat::Edition;
 
 // A fault of whoever wrote the card. Column names the first column that is 0 or has a bit at k or above.
 // FirstByte and ZeroWear are faults of the second edition alone.
-#[derive(Drop)]
+#[derive(Clone, Copy)]
 pub enum CardFault {
     Short,
     FirstByte,
@@ -65,7 +65,7 @@ pub fn value(fault: CardFault) -> usize
 }
 
 // What the check finds: a card of k data disks and m parity disks, or its fault.
-#[derive(Drop)]
+#[derive(Clone, Copy)]
 pub enum CardCheck {
     Good { k: usize, m: usize },
     Bad(CardFault),
@@ -73,7 +73,7 @@ pub enum CardCheck {
 
 // The card reader's answer. The columns stand in the first m places and the wears of the disks in the
 // first k + m, the others are 0, and all are where the card is refused.
-#[derive(Drop)]
+#[derive(Clone, Copy)]
 pub struct CardRead {
     pub check: CardCheck,
     pub columns: [u16; 16],

@@ -15,7 +15,7 @@ use card::{CardFault, Edition};
 use copies::copy;
 
 // The card writer's answer: written, a fault of the card that was to be, or a buffer of another length.
-#[derive(Drop)]
+#[derive(Clone, Copy)]
 pub enum CardWritten {
     Done,
     Refused(CardFault),

@@ -13,7 +13,7 @@ use card::{CardCheck, CardFault, Edition};
 
 // The converter's answer: converted, the card's fault, a buffer of another length, or, on the way down, a wear
 // that edition 1 can't hold.
-#[derive(Drop)]
+#[derive(Clone, Copy)]
 pub enum Converted {
     Done,
     Card(CardFault),

@@ -35,10 +35,10 @@ ones-only (w ∷ ws) e =
     let p = and_out (eqb w 1) (all_one ws) (true-T e) in
     ap₂ ◌∷◌ (eqb-true w 1 (T_true {b = eqb w 1} p.0)) (ones-only ws (T_true {b = all_one ws} p.1))
 
-pub all_one : (ws : List ℕ) → ((i : ℕ) → i < length ws → get_or ws i 0 ≡ 1) → all_one ws ≡ true
+pub all_one_lem : (ws : List ℕ) → ((i : ℕ) → i < length ws → get_or ws i 0 ≡ 1) → all_one ws ≡ true
 unfolding all_one
-all_one [] f = refl
-all_one (w ∷ ws) f = simp (eq-eqb w 1 (f 0 (omega arith))) (all_one ws (λ i l. f (suc i) (omega arith)))
+all_one_lem [] f = refl
+all_one_lem (w ∷ ws) f = simp (eq-eqb w 1 (f 0 (omega arith))) (all_one_lem ws (λ i l. f (suc i) (omega arith)))
 
 pub not-one : (ws : List ℕ) (i : ℕ) → i < length ws → get_or ws i 0 ≢ 1 → all_one ws ≡ false
 unfolding all_one

@@ -94,7 +94,7 @@ up_always card n ok size = converted.up-accepts card ok n size
 
 pub down_when_one : DownWhenOne
 down_when_one card n ok size = (
-  λ f. converted.down-accepts card ok n size (converted.all_one (wears_of (edition_two card)) (λ i l. f i (omega (arith, converted.each_disk card ok)))),
+  λ f. converted.down-accepts card ok n size (converted.all_one_lem (wears_of (edition_two card)) (λ i l. f i (omega (arith, converted.each_disk card ok)))),
   λ i l f. converted.down_refuses card ok n size (converted.not-one (wears_of (edition_two card)) i (omega (arith, converted.each_disk card ok)) (λ e. f (omega (arith, e)))),
 )
 

@@ -23,7 +23,7 @@ use card::{CardCheck, CardFault, Edition};
 
 // The encoder's answer: encoded, the card's fault, a strip length that is none, or a stripe of another
 // length.
-#[derive(Drop)]
+#[derive(Clone, Copy)]
 pub enum Encoded {
     Done,
     Card(CardFault),

@@ -18,7 +18,7 @@ use minimal_marks::KEYS;
 
 // The equation call's answer: the count, the card's fault, a disk that the code lacks, or the count
 // needed where the slice is shorter.
-#[derive(Drop)]
+#[derive(Clone, Copy)]
 pub enum Told {
     Count(usize),
     Card(CardFault),

@@ -17,7 +17,7 @@ use card::{CardCheck, CardFault, Edition};
 use minimal_marks::{KEYS, SIZES};
 
 // The lister's answer: the count, the card's fault, or the count needed where the slice is shorter.
-#[derive(Drop)]
+#[derive(Clone, Copy)]
 pub enum Listed {
     Count(usize),
     Card(CardFault),
@@ -26,7 +26,7 @@ pub enum Listed {
 
 // The lister's answer with the vector: place i - 1 has how many entries hold i disks, for i from 1 to
 // m + 1. The other places are 0, and all are where the call is refused.
-#[derive(Drop)]
+#[derive(Clone, Copy)]
 pub struct Listing {
     pub answer: Listed,
     pub vector: [usize; 17],

@@ -3,7 +3,7 @@
 #![tactic(auto)]
 
 // The edition of a card, as the caller names it. The second has a wear for each disk.
-#[derive(Drop)]
+#[derive(Clone, Copy)]
 pub enum Edition {
     First,
     Second,

@@ -11,7 +11,7 @@ ghost use Rattle.gf2.specs.Span.{select};
 ghost use Rattle.gf2.specs.Within.{lowest, clear, within};
 
 // The first count rows; what stands after them means nothing.
-#[derive(Drop)]
+#[derive(Clone, Copy)]
 pub struct Basis {
     pub rows: [u32; 16],
     pub count: usize,

@@ -20,7 +20,7 @@ use gf2::Basis;
 
 // The least-wear call's answer: the equation, the card's fault, a set with a disk that the code lacks, a disk that it
 // lacks, or that no equation survives.
-#[derive(Drop)]
+#[derive(Clone, Copy)]
 pub enum LeastWear {
     Equation(u32),
     Card(CardFault),

@@ -15,7 +15,7 @@ ghost use Rattle.likeness.specs.Forms.{standing};
 use card::{CardCheck, CardFault, Edition};
 
 // Alike or not, or the fault of the first card that has one.
-#[derive(Drop)]
+#[derive(Clone, Copy)]
 pub enum Likeness {
     Alike,
     Different,

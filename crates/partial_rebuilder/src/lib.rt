@@ -20,7 +20,7 @@ use restorer::StripeTest;
 
 // The answer: the lost disks that the survivors don't determine, the card's fault, a strip length that is
 // none, a set with a disk that the code lacks, a stripe of another length, or survivors of no content.
-#[derive(Drop)]
+#[derive(Clone, Copy)]
 pub enum PartlyRebuilt {
     Undetermined(u32),
     Card(CardFault),

@@ -16,7 +16,7 @@ ghost use Rattle.peeler.specs.Forms.{better, found};
 use gf2::Basis;
 
 // A step: the disk that it restores, as a set, and the others of its check. Both are empty where there is none.
-#[derive(Drop)]
+#[derive(Clone, Copy)]
 struct Step {
     disk: u32,
     others: u32,
@@ -70,7 +70,7 @@ fn mend(s: &mut [u8], l: usize, n: usize, disk: u32, others: u32)
 }
 
 // How many steps were made, and what is left of the lost set.
-#[derive(Drop)]
+#[derive(Clone, Copy)]
 pub struct Made {
     pub steps: usize,
     pub left: u32,

@@ -17,7 +17,7 @@ use restorer::StripeTest;
 
 // The rebuilder's answer: how many disks were lost, the card's fault, a strip length that is none, a set
 // with a disk that the code lacks, a stripe of another length, a fatal set, or survivors of no content.
-#[derive(Drop)]
+#[derive(Clone, Copy)]
 pub enum Rebuilt {
     Disks(u32),
     Card(CardFault),

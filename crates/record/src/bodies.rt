@@ -9,7 +9,7 @@ ghost use Rattle.record.specs.Reports.{report};
 use record_reader::{RecordCheck, RecordFault, check};
 
 // Whether the strip is there, or the reader's fault, a disk that the code lacks, or a lost disk.
-#[derive(Drop)]
+#[derive(Clone, Copy)]
 pub enum BodyCheck {
     There,
     Record(RecordFault),
@@ -18,7 +18,7 @@ pub enum BodyCheck {
 }
 
 // The same, and where in the file the strip stands: 0 and 0 where it is not there.
-#[derive(Drop)]
+#[derive(Clone, Copy)]
 pub struct BodyPlace {
     pub check: BodyCheck,
     pub at: usize,

@@ -14,7 +14,7 @@ mod checks;
 
 // A fault of whoever sent the record: another mark, a strip length that is none, other contents, the
 // card's fault, or another length of the file.
-#[derive(Drop)]
+#[derive(Clone, Copy)]
 pub enum RecordFault {
     Mark,
     StripLength,
@@ -25,7 +25,7 @@ pub enum RecordFault {
 
 // What the reader finds: a record of k data disks and m parity disks, the length of its strips and its
 // lost set, or its fault.
-#[derive(Drop)]
+#[derive(Clone, Copy)]
 pub enum RecordCheck {
     Good {
         k: usize,
@@ -38,7 +38,7 @@ pub enum RecordCheck {
 
 // The reader's answer. The columns stand in the first m places, the others are 0, and all are where the
 // file is refused.
-#[derive(Drop)]
+#[derive(Clone, Copy)]
 pub struct RecordRead {
     pub check: RecordCheck,
     pub columns: [u16; 16],

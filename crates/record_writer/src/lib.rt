@@ -19,7 +19,7 @@ mod parts;
 
 // The writer's answer: how long the record is, the card's fault, a strip length that is none, a lost set
 // with a disk that the code lacks, a stripe of another length, or an output that is too short.
-#[derive(Drop)]
+#[derive(Clone, Copy)]
 pub enum RecordWritten {
     Length(usize),
     Card(CardFault),

@@ -17,7 +17,7 @@ ghost use Rattle.restorer.specs.Reports.{report_before};
 
 // What the tests of a strip length, a lost set and a stripe say: all passed, a strip length that is none, a set
 // with a disk that the code lacks, or a stripe of another length.
-#[derive(Drop)]
+#[derive(Clone, Copy)]
 pub enum StripeTest {
     Passed,
     StripLength,

@@ -16,7 +16,7 @@ use card::Edition;
 
 // The answer: written, k or m outside 1 to 16, a distance that is neither 3 nor 4, k outside the bounds for d and m, or a
 // buffer of another length.
-#[derive(Drop)]
+#[derive(Clone, Copy)]
 pub enum SteppedWritten {
     Done,
     DataCount,

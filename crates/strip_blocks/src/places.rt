@@ -4,7 +4,7 @@ ghost use Rattle.gf2.specs.Sets.{has, over};
 ghost use Rattle.strip_blocks.specs.Totals.{total};
 
 // Where the strips start; the first count places mean something.
-#[derive(Drop)]
+#[derive(Clone, Copy)]
 pub struct Members {
     pub at: [usize; 32],
     pub count: usize,

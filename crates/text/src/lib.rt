@@ -15,7 +15,7 @@ mod lines;
 
 // The text was written and is so long; or the buffer is too short and was left as it was, and the
 // text would be so long.
-#[derive(Drop)]
+#[derive(Clone, Copy)]
 pub enum Text {
     Written(usize),
     Short(usize),

@@ -20,7 +20,7 @@ use peeler::Made;
 
 // Quick repair's answer: the steps made, the card's fault, a strip length that is none, a tray of no stripes
 // or of more than eight, a set with a disk that the code lacks, or a tray of another length.
-#[derive(Drop)]
+#[derive(Clone, Copy)]
 pub enum Repaired {
     Steps(usize),
     Card(CardFault),
@@ -31,7 +31,7 @@ pub enum Repaired {
 }
 
 // The answer with what is left of each set. The other places are 0, and all are where the call is refused.
-#[derive(Drop)]
+#[derive(Clone, Copy)]
 pub struct TrayRepair {
     pub answer: Repaired,
     pub left: [u32; 8],
@@ -59,7 +59,7 @@ fn peel_at(
 }
 
 // How many steps were made in a tray, and what is left of each set.
-#[derive(Drop)]
+#[derive(Clone, Copy)]
 struct Peels {
     steps: usize,
     left: [u32; 8],

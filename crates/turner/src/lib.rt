@@ -16,7 +16,7 @@ use copies::copy_long;
 
 // The answer: turned, the card's fault, a strip length that is none, or a stripe or a second buffer of another
 // length.
-#[derive(Drop)]
+#[derive(Clone, Copy)]
 pub enum Turned {
     Done,
     Card(CardFault),

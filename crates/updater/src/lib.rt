@@ -20,7 +20,7 @@ use card::{CardCheck, CardFault, Edition};
 
 // The update's answer: how many strips were rewritten, the card's fault, a strip length that is none, a disk
 // that the code lacks, a parity disk, a stripe of another length, or a new strip of another length.
-#[derive(Drop)]
+#[derive(Clone, Copy)]
 pub enum Updated {
     Strips(usize),
     Card(CardFault),

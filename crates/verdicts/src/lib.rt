@@ -14,7 +14,7 @@ use card::{CardCheck, CardFault, Edition};
 
 // The verdict call's answer: the disks of the set that the survivors don't determine, the card's fault, or a
 // set with a disk that the code lacks.
-#[derive(Drop)]
+#[derive(Clone, Copy)]
 pub enum SetVerdict {
     Undetermined(u32),
     Card(CardFault),
