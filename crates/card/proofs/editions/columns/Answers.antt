@@ -1,0 +1,12 @@
+-- `card::columns` meets its contract.
+-- Assumes nothing.
+use mathlib.Core.Path.{ap}
+use Prim.Native.Nat.{ℕ, ◌+◌}
+use borrow.Author.Rules.{rules}
+use Rattle.card.proofs.Places.{columns_lent}
+use Rattle.card.proofs.editions.columns.Goals as goal
+
+pub returns : goal.returns
+returns c =
+    let a = c.args in
+    columns_lent a.edition a.card.now _ _ (ap (λ (at : ℕ). at + 2) c.start-at.ensures) c.parities-m.ensures.0

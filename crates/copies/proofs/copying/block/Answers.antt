@@ -1,0 +1,18 @@
+-- `copies::copying::block` meets its contract: a table is stored place by place.
+-- Assumes nothing.
+use mathlib.Core.Path.{refl, ◌∙◌}
+use Prim.Native.Nat.{◌+◌, ◌-◌, ◌≤◌}
+use lib.ListN.{get_or}
+use Rattle.strip_blocks.proofs.Loops.{Table, table_none, table_more, table-all}
+use Rattle.copies.proofs.Blocks.{block-bytes}
+use borrow.Author.Rules.{rules}
+use Rattle.copies.proofs.copying.block.Goals as goal
+
+pub loop-t-init : goal.loop-t-init
+loop-t-init c = (search rules, table_none _ 4096 _ (search rules))
+
+pub loop-t-preserved : goal.loop-t-preserved
+loop-t-preserved c = (search rules, table_more _ 4096 _ _ _ c.loop-t.invariant.1 (search rules) refl)
+
+pub returns : goal.returns
+returns c = table-all _ 4096 _ _ c.loop-t.invariant.1 (search rules) ∙ block-bytes _ _ 4096 c.requires

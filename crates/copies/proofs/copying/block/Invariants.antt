@@ -1,0 +1,12 @@
+-- `copies::copying::block` meets its contract: a table is stored place by place.
+-- Assumes nothing.
+use mathlib.Core.Path.{refl, ◌∙◌}
+use Prim.Native.Nat.{◌+◌, ◌-◌, ◌≤◌}
+use lib.ListN.{get_or}
+use Rattle.strip_blocks.proofs.Loops.{Table, table_none, table_more, table-all}
+use Rattle.copies.proofs.Blocks.{block-bytes}
+use borrow.Author.Rules.{rules}
+use Rattle.copies.proofs.copying.block.Given as goal
+
+abbrev pub invariant-loop-t : goal.invariant-loop-t
+invariant-loop-t l = (l.t ≤ 4096) × Table (λ j. get_or l.s (l.at + j) 0) 4096 l.t l.out

@@ -1,0 +1,8 @@
+-- `repairs::undetermined` meets its contract. Assumes nothing.
+use mathlib.Core.Path.{ap, ◌∙◌}
+use borrow.Author.Rules.{rules}
+use Rattle.gf2.specs.Sets.{union}
+use Rattle.repairs.proofs.undetermined.Goals as goal
+
+pub returns : goal.returns
+returns c = c.union.ensures ∙ ap union c.within.ensures.1

@@ -1,0 +1,13 @@
+-- sets meets its contract. Assumes nothing.
+use mathlib.Core.Path.{◌≡◌, refl, ap, ◌∙◌}
+use Prim.Native.Nat.{ℕ, ◌-◌, ◌≤◌}
+use native.Mathlib.Omega.{arith}
+use borrow.Author.Rules.{rules}
+use lib.ListN.{length, length-set}
+use Rattle.flat.specs.Lists.{tabulate, padded}
+use Rattle.flat.proofs.Lists.{fill_none, fill_more}
+use Rattle.stepped_codes.specs.Stepped.{parity_set}
+use Rattle.stepped_sets.proofs.sets.Given as goal
+
+abbrev pub invariant-loop-i : goal.invariant-loop-i
+invariant-loop-i l = (l.i ≤ l.k) × (length l.out ≡ 16) × (l.out ≡ padded 16 (tabulate l.i (parity_set l.d l.m)))

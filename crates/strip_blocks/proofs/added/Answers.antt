@@ -1,0 +1,19 @@
+-- `strip_blocks::added` meets its contract: a table is stored place by place.
+-- Assumes nothing.
+use mathlib.Core.Path.{refl}
+use Prim.Native.Nat.{◌+◌, ◌-◌, ◌≤◌}
+use lib.ListN.{get_or}
+use Rattle.gf2.specs.Sets.{◌⊕◌}
+use Rattle.strip_blocks.proofs.Loops.{Table, table_none, table_more, table-all}
+use borrow.Author.Rules.{rules}
+use Rattle.strip_blocks.proofs.added.Goals as goal
+
+pub loop-t-init : goal.loop-t-init
+loop-t-init c = (search rules, table_none _ 128 _ (search rules))
+
+pub loop-t-preserved : goal.loop-t-preserved
+unfolding ◌⊕◌
+loop-t-preserved c = (search rules, table_more _ 128 _ _ _ c.loop-t.invariant.1 (search rules) refl)
+
+pub returns : goal.returns
+returns c = table-all _ 128 _ _ c.loop-t.invariant.1 (search rules)

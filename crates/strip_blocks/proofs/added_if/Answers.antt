@@ -1,0 +1,11 @@
+-- `strip_blocks::added_if` meets its contract, by the two cases of the test.
+-- Assumes nothing.
+use mathlib.Core.Path.{sym, ◌∙◌}
+use borrow.Author.Rules.{rules}
+use Rattle.strip_blocks.proofs.added_if.Goals as goal
+
+pub returns-then-has : goal.returns-then-has
+returns-then-has c = c.added.ensures ∙ rw (sym c.has.ensures ∙ c.if-has.true)
+
+pub returns-else-has : goal.returns-else-has
+returns-else-has c = rw (sym c.has.ensures ∙ c.if-has.false)

@@ -1,0 +1,17 @@
+-- `strip_blocks::is_zero` meets its contract: the OR of the bytes so far is 0 where each of them is.
+-- Assumes nothing.
+use mathlib.Core.Path.{◌≡◌, refl}
+use Prim.Native.Nat.{◌-◌, ◌≤◌}
+use lib.ListN.{get_or}
+use Rattle.strip_blocks.proofs.Loops.{Any, any_none, any-more, any-all}
+use borrow.Author.Rules.{rules}
+use Rattle.strip_blocks.proofs.is_zero.Goals as goal
+
+pub loop-t-init : goal.loop-t-init
+loop-t-init c = (search rules, any_none _)
+
+pub loop-t-preserved : goal.loop-t-preserved
+loop-t-preserved c = (search rules, any-more _ _ _ _ c.loop-t.invariant.1 refl)
+
+pub returns : goal.returns
+returns c = let e : c.loop-t.t ≡ 128 = search rules in any-all _ _ 128 _ c.loop-t.invariant.1 e

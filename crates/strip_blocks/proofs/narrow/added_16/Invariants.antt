@@ -1,0 +1,12 @@
+-- `strip_blocks::narrow::added_16` meets its contract: a table is stored place by place.
+-- Assumes nothing.
+use mathlib.Core.Path.{refl}
+use Prim.Native.Nat.{◌+◌, ◌-◌, ◌≤◌}
+use lib.ListN.{get_or}
+use Rattle.gf2.specs.Sets.{◌⊕◌}
+use Rattle.strip_blocks.proofs.Loops.{Table, table_none, table_more, table-all}
+use borrow.Author.Rules.{rules}
+use Rattle.strip_blocks.proofs.narrow.added_16.Given as goal
+
+abbrev pub invariant-loop-t : goal.invariant-loop-t
+invariant-loop-t l = (l.t ≤ 16) × Table (λ j. get_or l.block j 0 ⊕ get_or l.s (l.at + j) 0) 16 l.t l.out

@@ -1,0 +1,13 @@
+-- `strip_lanes::fill_long` meets its contract: the strip is written up to o, the data strips are as at entry.
+-- Assumes nothing.
+use mathlib.Core.Path.{◌≡◌}
+use Prim.Native.Nat.{◌-◌, ◌≤◌}
+use Rattle.strip_lanes.proofs.Lanes.{Lanes, lanes_made, StripTo, strip-none, strip-block, strip-all}
+use borrow.Author.Rules.{rules}
+use Rattle.strip_lanes.proofs.fill_long.Given as goal
+
+abbrev pub invariant-loop-o : goal.invariant-loop-o
+invariant-loop-o l = (l.o ≤ l.l) × Lanes l.k 0 l.j l.bits l.lanes × StripTo l.k l.l l.bits l.j l.initial.s l.o l.s
+
+abbrev pub decreases-loop-o : goal.decreases-loop-o
+decreases-loop-o l = l.l - l.o

@@ -1,0 +1,20 @@
+-- `strip_lanes::narrow::add_16` meets its contract: 16 products are XORed in, place by place.
+-- Assumes nothing.
+use mathlib.Core.Path.{◌≡◌}
+use Prim.Native.Nat.{◌+◌, ◌-◌, ◌*◌, ◌≤◌}
+use lib.ListN.{get_or}
+use Rattle.gf2.specs.Sets.{◌⊕◌}
+use Rattle.strip_blocks.proofs.Runs.{Run, run_none, run_all}
+use Rattle.strip_products.proofs.Joined.{joined, joined-more}
+use borrow.Author.Rules.{rules}
+use Rattle.strip_lanes.proofs.narrow.add_16.Goals as goal
+
+pub loop-t-init : goal.loop-t-init
+loop-t-init c = (search rules, run_none _ _ _)
+
+pub loop-t-preserved : goal.loop-t-preserved
+unfolding ◌⊕◌
+loop-t-preserved c = (search rules, joined-more _ _ _ _ _ _ c.loop-t.invariant.1 (search rules) c.product.ensures.value)
+
+pub returns : goal.returns
+returns c = let e : c.loop-t.t ≡ 16 = search rules in run_all _ _ _ 16 _ _ c.loop-t.invariant.1 e (search rules)

@@ -1,0 +1,13 @@
+-- `strip_lanes::narrow::add_16` meets its contract: 16 products are XORed in, place by place.
+-- Assumes nothing.
+use mathlib.Core.Path.{◌≡◌}
+use Prim.Native.Nat.{◌+◌, ◌-◌, ◌*◌, ◌≤◌}
+use lib.ListN.{get_or}
+use Rattle.gf2.specs.Sets.{◌⊕◌}
+use Rattle.strip_blocks.proofs.Runs.{Run, run_none, run_all}
+use Rattle.strip_products.proofs.Joined.{joined, joined-more}
+use borrow.Author.Rules.{rules}
+use Rattle.strip_lanes.proofs.narrow.add_16.Given as goal
+
+abbrev pub invariant-loop-t : goal.invariant-loop-t
+invariant-loop-t l = (l.t ≤ 16) × Run l.initial.sums l.to (joined l.initial.sums l.to (λ u. get_or l.s (l.at + u) 0 * l.bit)) l.t l.sums

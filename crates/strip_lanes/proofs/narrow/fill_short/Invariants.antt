@@ -1,0 +1,17 @@
+-- `strip_lanes::narrow::fill_short` meets its contract: the strip is written up to o or its end, the sums from o on are 0.
+-- Assumes nothing.
+use mathlib.Core.Path.{◌≡◌, ◌∙◌, subst}
+use Prim.Native.Nat.{ℕ, ◌+◌, ◌-◌, ◌*◌, ◌%◌, ◌≤◌, min}
+use native.Mathlib.Nat.{mul-le-mul_right}
+use native.Mathlib.Omega.{arith}
+use lib.ListN.{length, get_or}
+use Rattle.flat.proofs.Lists.{get_d_zeros}
+use Rattle.strip_lanes.proofs.Lanes.{StripTo, strip-none, strip-sums, strip-all}
+use borrow.Author.Rules.{rules}
+use Rattle.strip_lanes.proofs.narrow.fill_short.Given as goal
+
+abbrev pub invariant-loop-o : goal.invariant-loop-o
+invariant-loop-o l = (l.o ≤ 128) × (l.o % 16 ≡ 0) × (length l.sums ≡ 128) × ((p : ℕ) → l.o ≤ p → get_or l.sums p 0 ≡ 0) × StripTo l.k l.l l.bits l.j l.initial.s (min l.o l.l) l.s
+
+abbrev pub decreases-loop-o : goal.decreases-loop-o
+decreases-loop-o l = l.l - l.o

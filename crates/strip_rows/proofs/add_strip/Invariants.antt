@@ -1,0 +1,11 @@
+-- `strip_rows::add_strip` meets its contract: the bytes so far have gone into their rows.
+-- Assumes nothing.
+use mathlib.Core.Path.{◌≡◌, ap}
+use Prim.Native.Nat.{ℕ, ◌-◌, ◌*◌, ◌≤◌}
+use Rattle.strip_blocks.proofs.Runs.{Run, run_none, run_all}
+use Rattle.strip_rows.proofs.Rows.{added_place, row_more}
+use borrow.Author.Rules.{rules}
+use Rattle.strip_rows.proofs.add_strip.Given as goal
+
+abbrev pub invariant-loop-t : goal.invariant-loop-t
+invariant-loop-t l = (l.t ≤ l.l) × Run l.initial.rows 0 (added_place l.initial.rows l.s l.at l.bits l.b) (l.t * 16) l.rows

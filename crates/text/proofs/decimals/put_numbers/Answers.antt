@@ -1,0 +1,26 @@
+-- `text::decimals::put_numbers` meets its contract: after i turns the first i pieces are put.
+-- Assumes nothing.
+use Prim.Native.Nat.{◌-◌}
+use native.Mathlib.Omega.{arith}
+use borrow.Author.Rules.{rules}
+use lib.ListN.{length}
+use Rattle.text.specs.Decimal.{spaced}
+use Rattle.text.proofs.Pieces.{Pieced, pieced_none, pieced_room, pieced_more, pieced_all}
+use Rattle.text.proofs.Puts.{put-length}
+use Rattle.text.proofs.decimals.put_numbers.Goals as goal
+
+pub loop-i-init : goal.loop-i-init
+loop-i-init c = pieced_none _ _ _ _
+
+pub put_spaced-next-requires : goal.put_spaced-next-requires
+put_spaced-next-requires c =
+    pieced_room c.loop-i.invariant (search rules) c.requires
+
+pub loop-i-preserved : goal.loop-i-preserved
+loop-i-preserved c = pieced_more c.loop-i.invariant (search rules) c.put_spaced-next.ensures
+
+pub shape_of-out : goal.shape_of-out
+shape_of-out c = put-length c.loop-i.invariant.put
+
+pub returns : goal.returns
+returns c = pieced_all c.loop-i.invariant (omega arith)
