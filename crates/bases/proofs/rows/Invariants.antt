@@ -1,0 +1,17 @@
+-- `bases::rows` meets its contract: after i turns the first i rows stand in their places, and zeros behind them.
+-- Assumes nothing.
+use mathlib.Core.Path.{◌≡◌, refl, ap, ◌∙◌}
+use Prim.Native.Nat.{ℕ, ◌-◌, ◌≤◌}
+use native.Mathlib.Omega.{arith}
+use lib.ListN.{length, take}
+use Rattle.flat.specs.Lists.{padded, tabulate}
+use Rattle.flat.specs.Cards.{code_in}
+use Rattle.flat.specs.Checks.{row}
+use Rattle.flat.specs.Spans.{rows}
+use Rattle.flat.proofs.Lists.{fill_none, fill_more, length-tabulate, take-padded}
+use borrow.Author.Rules.{rules}
+use Rattle.bases.proofs.rows.Given as goal
+
+abbrev pub invariant-loop-i : goal.invariant-loop-i
+invariant-loop-i l =
+    (l.i ≤ l.k) × (length l.out ≡ 16) × (l.out ≡ padded 16 (tabulate l.i (row (code_in l.k l.m l.columns))))
