@@ -1,0 +1,13 @@
+-- `record_writer::parts::put_bodies` meets its contract: each body goes right after the one before it.
+-- Assumes nothing.
+use mathlib.Core.Path.{◌≡◌, refl, sym}
+use Prim.Native.Nat.{suc, ◌-◌, ◌≤◌}
+use native.Mathlib.Omega.{arith}
+use Rattle.record_format.specs.Records.{strip_body}
+use Rattle.record_writer.proofs.Runs.{Laid, laid_none, laid_more, laid-all}
+use Rattle.record_format.proofs.Places.{strip-room, body-next, bodies_end, body_grows}
+use borrow.Author.Rules.{rules}
+use Rattle.record_writer.proofs.parts.put_bodies.Given as goal
+
+abbrev pub invariant-loop-i : goal.invariant-loop-i
+invariant-loop-i l = (l.i ≤ l.n) × Laid (strip_body l.l l.lost l.stripe) l.initial.out l.start l.i l.out
