@@ -17,19 +17,19 @@ put_columns-requires c =
     let a = c.args in
     let p = c.requires in
     let e = c.put_counts-at.ensures in
-    (e.0.1, omega (arith, p.2, p.3), putting.columns_fit a.edition a.k a.m _ a.columns.now a.wears.now a.out.now p.3 p.4 p.5 e.0.0 _ e.1)
+    (e.value.1, omega (arith, p.2, p.3), putting.columns_fit a.edition a.k a.m _ a.columns.now a.wears.now a.out.now p.3 p.4 p.5 e.value.0 _ e.out_after)
 
 pub copy-requires : goal.copy-requires
 copy-requires c =
     let a = c.args in
     let p = c.requires in
     let e = c.put_counts-at.ensures in
-    putting.wears_fit a.edition a.k a.m _ a.columns.now a.wears.now a.out.now p.3 p.4 p.5 e.0.0 _ _ e.1 c.put_columns.ensures
+    putting.wears_fit a.edition a.k a.m _ a.columns.now a.wears.now a.out.now p.3 p.4 p.5 e.value.0 _ _ e.out_after c.put_columns.ensures
 
 pub returns : goal.returns
 returns c =
     let a = c.args in
     let p = c.requires in
     let e = c.put_counts-at.ensures in
-    putting.card-put a.edition a.k a.m _ a.columns.now a.wears.now a.out.now p.3 p.4 p.5 e.0.0 _ _ _ e.1 c.put_columns.ensures
+    putting.card-put a.edition a.k a.m _ a.columns.now a.wears.now a.out.now p.3 p.4 p.5 e.value.0 _ _ _ e.out_after c.put_columns.ensures
     c.copy.ensures

@@ -27,9 +27,9 @@ returns-then-k-data c =
     let known : GoodCard (first_at) (k_at) (m_at) =
         good _ _ _ (c.in-Good.ensures) in
     let dataAt : ℕ =
-        c.in-Good-check.field-0 in
+        c.in-Good-check.data in
     let parityAt : ℕ =
-        c.in-Good-check.field-1 in
+        c.in-Good-check.parity in
     let known2 : GoodCard (secondAt) (dataAt) (parityAt) =
         good _ _ _ (c.in-Good-check.ensures) in
     alike_both _ _ _ _ (known) _ _ (known2) false (data_differs _ _ _ _ (known) _ _ (known2) (λ e. omega (arith, e, c.if-k-data.true)))
@@ -48,9 +48,9 @@ returns-then-m-parity c =
     let known : GoodCard (first_at) (k_at) (m_at) =
         good _ _ _ (c.in-Good.ensures) in
     let dataAt : ℕ =
-        c.in-Good-check.field-0 in
+        c.in-Good-check.data in
     let parityAt : ℕ =
-        c.in-Good-check.field-1 in
+        c.in-Good-check.parity in
     let known2 : GoodCard (secondAt) (dataAt) (parityAt) =
         good _ _ _ (c.in-Good-check.ensures) in
     alike_both _ _ _ _ (known) _ _ (known2) false
@@ -73,9 +73,9 @@ columns-requires-in-Good-check c =
     let secondAt : Card =
         let a = c.args in card_of a.b a.second.now in
     let dataAt : ℕ =
-        c.in-Good-check.field-0 in
+        c.in-Good-check.data in
     let parityAt : ℕ =
-        c.in-Good-check.field-1 in
+        c.in-Good-check.parity in
     let known2 : GoodCard (secondAt) (dataAt) (parityAt) =
         good _ _ _ (c.in-Good-check.ensures) in
     (known2).whole
@@ -94,9 +94,9 @@ rearranged-requires c =
     let known : GoodCard (first_at) (k_at) (m_at) =
         good _ _ _ (c.in-Good.ensures) in
     let dataAt : ℕ =
-        c.in-Good-check.field-0 in
+        c.in-Good-check.data in
     let parityAt : ℕ =
-        c.in-Good-check.field-1 in
+        c.in-Good-check.parity in
     let known2 : GoodCard (secondAt) (dataAt) (parityAt) =
         good _ _ _ (c.in-Good-check.ensures) in
     let f = (known).columns in
@@ -117,9 +117,9 @@ returns-then-rearranged c =
     let known : GoodCard (first_at) (k_at) (m_at) =
         good _ _ _ (c.in-Good.ensures) in
     let dataAt : ℕ =
-        c.in-Good-check.field-0 in
+        c.in-Good-check.data in
     let parityAt : ℕ =
-        c.in-Good-check.field-1 in
+        c.in-Good-check.parity in
     let known2 : GoodCard (secondAt) (dataAt) (parityAt) =
         good _ _ _ (c.in-Good-check.ensures) in
     let decided : c.rearranged.result
@@ -143,7 +143,7 @@ returns-in-Bad-check c =
         c.in-Good.m in
     let known : GoodCard (first_at) (k_at) (m_at) =
         good _ _ _ (c.in-Good.ensures) in
-    alike_second _ _ _ _ (known) c.in-Bad-check.field-0
+    alike_second _ _ _ _ (known) c.in-Bad-check.fault
     (c.in-Bad-check.ensures)
 
 pub returns-else-rearranged : goal.returns-else-rearranged
@@ -160,9 +160,9 @@ returns-else-rearranged c =
     let known : GoodCard (first_at) (k_at) (m_at) =
         good _ _ _ (c.in-Good.ensures) in
     let dataAt : ℕ =
-        c.in-Good-check.field-0 in
+        c.in-Good-check.data in
     let parityAt : ℕ =
-        c.in-Good-check.field-1 in
+        c.in-Good-check.parity in
     let known2 : GoodCard (secondAt) (dataAt) (parityAt) =
         good _ _ _ (c.in-Good-check.ensures) in
     let decided : c.rearranged.result

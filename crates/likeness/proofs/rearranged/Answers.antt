@@ -13,8 +13,7 @@ pub loop-j-init : goal.loop-j-init
 loop-j-init c = (omega arith, often-none _ _ _)
 
 pub returns-then-balance-ne-LEVEL : goal.returns-then-balance-ne-LEVEL
-returns-then-balance-ne-LEVEL c =
-    often_fails _ _ _ _ _ _ c.column.ensures c.balance.ensures _ (omega arith) (λ e. omega (arith, e, c.if-balance-ne-LEVEL.true)) ∙ stand_rearranged k _ _ _
+returns-then-balance-ne-LEVEL c = λ k. often_fails _ _ _ _ _ _ c.column.ensures c.balance.ensures _ (omega arith) (λ e. omega (arith, e, c.if-balance-ne-LEVEL.true)) ∙ stand_rearranged k _ _ _
 
 pub loop-j-preserved : goal.loop-j-preserved
 loop-j-preserved c =
@@ -22,8 +21,7 @@ loop-j-preserved c =
     (omega arith, often-more _ _ _ _ _ _ c.column.ensures c.balance.ensures l.invariant.1 (omega arith))
 
 pub returns : goal.returns
-returns c =
-    let l = c.loop-j in
+returns c = λ k. let l = c.loop-j in
     let a = c.args in
     let e : l.j ≡ a.m = omega arith in
     sym (T_true (subst (λ (j : ℕ). T (stand_as_often j a.m a.first.now a.second.now)) e l.invariant.1)) ∙ stand_rearranged k _ _ _

@@ -10,10 +10,10 @@ use Rattle.strip_vanishing.proofs.vanishes_few.Goals as goal
 pub vanishes-requires : goal.vanishes-requires
 vanishes-requires c =
     let r = c.members_of-members in
-    record { le_count = (omega arith, omega arith); inside = λ j h. let p = r.ensures.by_index.0 j h in omega (arith, place_inside _ _ _ _ p.1 p.3, c.requires) }
+    record { le_count = (omega arith, omega arith); inside = λ j h. let p = r.ensures.by_index j h in omega (arith, place_inside _ _ _ _ p.1 p.3, c.requires) }
 
 pub returns : goal.returns
 returns c =
     let a = c.args in
     let r = c.members_of-members in
-    c.vanishes.ensures ∙ streamed_vanishes a.n a.l a.set a.s.now r.result.at r.result.count r.ensures.by_index.1
+    c.vanishes.ensures ∙ streamed_vanishes a.n a.l a.set a.s.now r.result.at r.result.count r.ensures.by_index_2

@@ -1,0 +1,13 @@
+-- `strips::fill_sparse` meets its contract: the strip is written up to o, the other strips are as at entry.
+-- Assumes nothing.
+use Prim.Native.Nat.{◌-◌, ◌≤◌}
+use Rattle.strip_blocks.proofs.Runs.{run_none}
+use Rattle.strips.proofs.OneStrip.{StripTo, strip-more, strip-all}
+use borrow.Author.Rules.{rules}
+use Rattle.strips.proofs.fill_sparse.Given as goal
+
+abbrev pub invariant-loop-o : goal.invariant-loop-o
+invariant-loop-o l = (l.o ≤ l.l) × StripTo l.n l.l l.set l.d l.initial.s l.o l.s
+
+abbrev pub decreases-loop-o : goal.decreases-loop-o
+decreases-loop-o l = l.l - l.o
