@@ -1,7 +1,7 @@
 -- The equations of a disk, as the enumeration over the checks gives them.
 -- Assumes nothing.
 use mathlib.Core.Path.{◌≡◌, sym, ap, ap₂, ◌∙◌, subst}
-use mathlib.Core.Bool.{Bool, ◌&&◌, and_true}
+use mathlib.Core.Bool.{Bool, ◌&&◌, and-true}
 use mathlib.Core.List.{List, map}
 use Prim.Native.Nat.{ℕ, suc, ◌+◌, ◌-◌, ◌^◌, ◌≤◌, ◌<◌}
 use native.Mathlib.Omega.{arith}
@@ -45,7 +45,7 @@ parities-held C E =
     ∙ ap₂ ◌+◌
     (count_none C.k (λ i. has E i && leb C.k i) (λ i l t. let h = leb_out C.k i (and_out (has E i) (leb C.k i) t).1 in omega arith))
     (count_cong C.m (λ j. has E (C.k + j) && leb C.k (C.k + j)) (λ j. has E (C.k + j))
-    (λ j l. ap (λ (b : Bool). has E (C.k + j) && b) (le-leb C.k (C.k + j) (omega arith)) ∙ and_true (has E (C.k + j))))
+    (λ j l. ap (λ (b : Bool). has E (C.k + j) && b) (le-leb C.k (C.k + j) (omega arith)) ∙ and-true (has E (C.k + j))))
     ∙ z
 
 module _ (C : Code) (d : ℕ) where
