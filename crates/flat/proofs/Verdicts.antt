@@ -9,7 +9,7 @@ use borrow.Author.Tests.{not-false, lt-ltb}
 use lib.Dec.{T, ltb}
 use lib.ListN.{length, take}
 use Rattle.gf2.specs.If.{if◌then◌else◌}
-use Rattle.gf2.specs.Sets.{has, ◌⊆◌}
+use Rattle.gf2.specs.Sets.{has}
 use Rattle.gf2.proofs.Tests.{T_true, true-T, ltb_out}
 use Rattle.gf2.proofs.Subsets.{⊆_trans, ⊆_le}
 use Rattle.flat.specs.Lists.{member}

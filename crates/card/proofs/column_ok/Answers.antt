@@ -1,7 +1,6 @@
 -- `card::column_ok` meets its contract.
 -- Assumes nothing.
 use native.Mathlib.Omega.{arith}
-use borrow.Author.Rules.{rules}
 use borrow.Author.Tests.{lt-leb, le-leb}
 use Rattle.flat.specs.Cards.{column_ok}
 use Rattle.gf2.proofs.Bits.{one_shifted}

@@ -1,12 +1,8 @@
 -- `card::columns_of` meets its contract: after j turns the first j columns stand in their places, and zeros behind them.
 -- Assumes nothing.
 use mathlib.Core.Path.{◌≡◌, refl, ◌∙◌}
-use Prim.Native.Nat.{◌-◌, ◌≤◌}
 use native.Mathlib.Omega.{arith}
-use borrow.Author.Rules.{rules}
-use lib.ListN.{length, length-set}
-use Rattle.flat.specs.Lists.{padded}
-use Rattle.flat.specs.Cards.{columns_in}
+use lib.ListN.{length-set}
 use Rattle.card.proofs.Loops.{filled_none, filled_more}
 use Rattle.card.proofs.columns_of.Goals as goal
 

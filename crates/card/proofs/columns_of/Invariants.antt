@@ -1,13 +1,10 @@
 -- `card::columns_of` meets its contract: after j turns the first j columns stand in their places, and zeros behind them.
 -- Assumes nothing.
-use mathlib.Core.Path.{◌≡◌, refl, ◌∙◌}
-use Prim.Native.Nat.{◌-◌, ◌≤◌}
-use native.Mathlib.Omega.{arith}
-use borrow.Author.Rules.{rules}
-use lib.ListN.{length, length-set}
+use mathlib.Core.Path.{◌≡◌}
+use Prim.Native.Nat.{◌≤◌}
+use lib.ListN.{length}
 use Rattle.flat.specs.Lists.{padded}
 use Rattle.flat.specs.Cards.{columns_in}
-use Rattle.card.proofs.Loops.{filled_none, filled_more}
 use Rattle.card.proofs.columns_of.Given as goal
 
 abbrev pub invariant-loop-j : goal.invariant-loop-j

@@ -1,11 +1,7 @@
 -- `card::first_bad` meets its contract: the columns that the loop has passed are good.
 -- Assumes nothing.
 use mathlib.Core.Path.{sym, ◌∙◌}
-use Prim.Native.Nat.{◌-◌}
-use borrow.Author.Rules.{rules}
-use borrow.Author.Tests.{not-true, not-false}
-use lib.ListN.{length}
-use Rattle.card.proofs.Loops.{Passed, passed_none, passed-more, passed_bad, passed-all}
+use Rattle.card.proofs.Loops.{passed_none, passed-more, passed_bad, passed-all}
 use Rattle.card.proofs.first_bad.Goals as goal
 
 pub loop-j-init : goal.loop-j-init

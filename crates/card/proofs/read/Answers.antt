@@ -1,16 +1,10 @@
 -- `card::read` meets its contract: the check's report, and the columns and wears of a card that it accepts.
 -- Assumes nothing.
-use mathlib.Core.Path.{◌≡◌, sym, ap, ◌∙◌}
-use Prim.Native.Nat.{ℕ}
+use mathlib.Core.Path.{sym, ◌∙◌}
 use native.Mathlib.Omega.{arith}
-use borrow.Author.Rules.{rules}
-use Rattle.flat.specs.Cards.{Card, card_of}
-use Rattle.flat.specs.Faults.{card_report}
 use Rattle.flat.proofs.RoundTrip.{columns-read, wears-read}
-use Rattle.card.specs.declared.CardCheck.TheVariants.{Good}
-use Rattle.card.specs.Reports.{report}
 use Rattle.card.proofs.Laws.{columns-refused, wears-refused}
-use Rattle.card.proofs.Callers.{GoodCard, good}
+use Rattle.card.proofs.Callers.{good}
 use Rattle.card.proofs.read.Goals as goal
 
 pub columns-requires : goal.columns-requires

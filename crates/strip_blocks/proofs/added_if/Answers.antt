@@ -1,7 +1,6 @@
 -- `strip_blocks::added_if` meets its contract, by the two cases of the test.
 -- Assumes nothing.
 use mathlib.Core.Path.{sym, ◌∙◌}
-use borrow.Author.Rules.{rules}
 use Rattle.strip_blocks.proofs.added_if.Goals as goal
 
 pub returns-then-has : goal.returns-then-has

@@ -1,8 +1,7 @@
 -- `strip_blocks::put_first` meets its contract: a copy is made byte by byte.
 -- Assumes nothing.
 use mathlib.Core.Path.{◌≡◌, refl}
-use Prim.Native.Nat.{◌-◌, ◌≤◌}
-use Rattle.strip_blocks.proofs.Loops.{Copied, copied_none, copied_more, copied_first}
+use Rattle.strip_blocks.proofs.Loops.{copied_none, copied_more, copied_first}
 use borrow.Author.Rules.{rules}
 use Rattle.strip_blocks.proofs.put_first.Goals as goal
 

@@ -1,6 +1,5 @@
 -- `text::listing` meets its contract: a text that is longer than the buffer is not put, any other is.
 -- Assumes nothing.
-use borrow.Author.Rules.{rules}
 use Rattle.text.proofs.Answers.{too_short, long-enough}
 use Rattle.text.proofs.Puts.{put-length}
 use Rattle.text.proofs.listing.Goals as goal

@@ -1,7 +1,6 @@
 -- `text::listing_length` meets its contract: the lengths of the first line, the sets' lines and the vector's line.
 -- Assumes nothing.
 use native.Mathlib.Omega.{arith}
-use borrow.Author.Rules.{rules}
 use Rattle.text.proofs.Lengths.{length-listing}
 use Rattle.text.proofs.listing_length.Goals as goal
 

@@ -1,6 +1,5 @@
 -- `text::refused` meets its contract: a line that is longer than the buffer is not put, any other is.
 -- Assumes nothing.
-use borrow.Author.Rules.{rules}
 use Rattle.text.specs.Text.{refused_text}
 use Rattle.text.proofs.Answers.{too_short, long-enough}
 use Rattle.text.proofs.Puts.{put-length}

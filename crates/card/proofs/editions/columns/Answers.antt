@@ -2,7 +2,6 @@
 -- Assumes nothing.
 use mathlib.Core.Path.{ap}
 use Prim.Native.Nat.{ℕ, ◌+◌}
-use borrow.Author.Rules.{rules}
 use Rattle.card.proofs.Places.{columns_lent}
 use Rattle.card.proofs.editions.columns.Goals as goal
 

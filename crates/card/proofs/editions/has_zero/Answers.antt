@@ -1,11 +1,7 @@
 -- `card::has_zero` meets its contract: what is left of the wears has a zero exactly where they have.
 -- Assumes nothing.
-use mathlib.Core.Path.{◌≡◌, refl}
-use Prim.Native.Nat.{◌-◌, ◌≤◌}
+use mathlib.Core.Path.{refl}
 use native.Mathlib.Omega.{arith}
-use borrow.Author.Rules.{rules}
-use lib.ListN.{length, drop}
-use Rattle.flat.specs.Lists.{member}
 use Rattle.card.proofs.Loops.{searched_more, searched_found, searched_all}
 use Rattle.card.proofs.editions.has_zero.Goals as goal
 

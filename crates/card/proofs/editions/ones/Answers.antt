@@ -1,11 +1,8 @@
 -- `card::ones` meets its contract: after i turns i ones stand in their places, and zeros behind them.
 -- Assumes nothing.
-use mathlib.Core.Path.{◌≡◌, refl}
-use Prim.Native.Nat.{◌-◌, ◌≤◌}
+use mathlib.Core.Path.{refl}
 use native.Mathlib.Omega.{arith}
-use borrow.Author.Rules.{rules}
-use lib.ListN.{length, length-set}
-use Rattle.flat.specs.Lists.{tabulate, padded}
+use lib.ListN.{length-set}
 use Rattle.flat.proofs.Lists.{fill_none, fill_more}
 use Rattle.card.proofs.Loops.{ones-all}
 use Rattle.card.proofs.editions.ones.Goals as goal

@@ -1,13 +1,9 @@
 -- `card::ones` meets its contract: after i turns i ones stand in their places, and zeros behind them.
 -- Assumes nothing.
-use mathlib.Core.Path.{◌≡◌, refl}
-use Prim.Native.Nat.{◌-◌, ◌≤◌}
-use native.Mathlib.Omega.{arith}
-use borrow.Author.Rules.{rules}
-use lib.ListN.{length, length-set}
+use mathlib.Core.Path.{◌≡◌}
+use Prim.Native.Nat.{◌≤◌}
+use lib.ListN.{length}
 use Rattle.flat.specs.Lists.{tabulate, padded}
-use Rattle.flat.proofs.Lists.{fill_none, fill_more}
-use Rattle.card.proofs.Loops.{ones-all}
 use Rattle.card.proofs.editions.ones.Given as goal
 
 abbrev pub invariant-loop-i : goal.invariant-loop-i

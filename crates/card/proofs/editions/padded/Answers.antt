@@ -1,11 +1,8 @@
 -- `card::padded` meets its contract: after i turns the first i wears stand in their places, and zeros behind them.
 -- Assumes nothing.
-use mathlib.Core.Path.{◌≡◌, refl}
-use Prim.Native.Nat.{◌-◌, ◌≤◌}
+use mathlib.Core.Path.{refl}
 use native.Mathlib.Omega.{arith}
-use borrow.Author.Rules.{rules}
-use lib.ListN.{length, get_or, length-set}
-use Rattle.flat.specs.Lists.{tabulate, padded}
+use lib.ListN.{length-set}
 use Rattle.flat.proofs.Lists.{fill_none, fill_more}
 use Rattle.card.proofs.Loops.{worn-all}
 use Rattle.card.proofs.editions.padded.Goals as goal

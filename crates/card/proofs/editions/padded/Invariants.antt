@@ -1,13 +1,9 @@
 -- `card::padded` meets its contract: after i turns the first i wears stand in their places, and zeros behind them.
 -- Assumes nothing.
-use mathlib.Core.Path.{◌≡◌, refl}
-use Prim.Native.Nat.{◌-◌, ◌≤◌}
-use native.Mathlib.Omega.{arith}
-use borrow.Author.Rules.{rules}
-use lib.ListN.{length, get_or, length-set}
+use mathlib.Core.Path.{◌≡◌}
+use Prim.Native.Nat.{◌≤◌}
+use lib.ListN.{length, get_or}
 use Rattle.flat.specs.Lists.{tabulate, padded}
-use Rattle.flat.proofs.Lists.{fill_none, fill_more}
-use Rattle.card.proofs.Loops.{worn-all}
 use Rattle.card.proofs.editions.padded.Given as goal
 
 abbrev pub invariant-loop-i : goal.invariant-loop-i

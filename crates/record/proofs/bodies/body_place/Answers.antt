@@ -158,7 +158,7 @@ returns-else-has c =
         c.in-Good.lost in
     let known : GoodRecord (fileAt) (k_at) (m_at) (l_at) (lost_at) =
         good _ _ _ _ _ (ap record_check_report (sym c.in-Good.is) ∙ c.check.ensures) in
-    there _ _ _ _ _ (known) _ _ _ (omega arith) (sym c.has.ensures ∙ c.if-has.false) c.strips_at.ensures.0 c.body_at-at.ensures).1; len_in_bounds = (let fileAt : List ℕ =
+    there _ _ _ _ _ (known) _ _ _ (omega arith) (sym c.has.ensures ∙ c.if-has.false) c.strips_at.ensures.0 c.body_at-at.ensures).1.0; len_in_bounds = (let fileAt : List ℕ =
         c.args.file.now in
     let k_at : ℕ =
         c.in-Good.k in
@@ -170,4 +170,4 @@ returns-else-has c =
         c.in-Good.lost in
     let known : GoodRecord (fileAt) (k_at) (m_at) (l_at) (lost_at) =
         good _ _ _ _ _ (ap record_check_report (sym c.in-Good.is) ∙ c.check.ensures) in
-    there _ _ _ _ _ (known) _ _ _ (omega arith) (sym c.has.ensures ∙ c.if-has.false) c.strips_at.ensures.0 c.body_at-at.ensures).2 }
+    there _ _ _ _ _ (known) _ _ _ (omega arith) (sym c.has.ensures ∙ c.if-has.false) c.strips_at.ensures.0 c.body_at-at.ensures).1.1 }

@@ -3,7 +3,6 @@
 use mathlib.Core.Path.{sym, ◌∙◌}
 use Rattle.gf2.specs.Sets.{◌⊕◌}
 use Rattle.gf2.proofs.Xor.{⊕-zero}
-use borrow.Author.Rules.{rules}
 use Rattle.strip_blocks.proofs.bytes.added_if_1.Goals as goal
 
 pub returns-then-has : goal.returns-then-has

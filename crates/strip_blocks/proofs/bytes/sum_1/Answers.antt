@@ -1,7 +1,7 @@
 -- `strip_blocks::bytes::sum_1` meets its contract: the byte is the XOR of the strips so far.
 -- Assumes nothing.
 use mathlib.Core.Path.{◌≡◌, refl, ap, ◌∙◌}
-use Prim.Native.Nat.{ℕ, ◌+◌, ◌-◌, ◌*◌, ◌≤◌, ◌<◌}
+use Prim.Native.Nat.{ℕ, ◌+◌, ◌*◌, ◌≤◌}
 use native.Mathlib.Omega.{arith}
 use Rattle.gf2.specs.Sets.{over}
 use Rattle.flat.specs.Strips.{byte_of}
@@ -17,19 +17,19 @@ loop-i-init c = (search rules, search rules, refl)
 pub overflow_mul-i : goal.overflow_mul-i
 overflow_mul-i c =
     let inside : c.loop-i.i * c.args.l + c.args.l ≤ c.args.n * c.args.l =
-        strip-within c.loop-i.i c.args.n c.args.l (omega arith) in
+    strip-within c.loop-i.i c.args.n c.args.l (omega arith) in
     omega (arith, inside)
 
 pub overflow_add-i : goal.overflow_add-i
 overflow_add-i c =
     let inside : c.loop-i.i * c.args.l + c.args.l ≤ c.args.n * c.args.l =
-        strip-within c.loop-i.i c.args.n c.args.l (omega arith) in
+    strip-within c.loop-i.i c.args.n c.args.l (omega arith) in
     omega (arith, inside)
 
 pub added_if_1-byte-requires : goal.added_if_1-byte-requires
 added_if_1-byte-requires c =
     let inside : c.loop-i.i * c.args.l + c.args.l ≤ c.args.n * c.args.l =
-        strip-within c.loop-i.i c.args.n c.args.l (omega arith) in
+    strip-within c.loop-i.i c.args.n c.args.l (omega arith) in
     omega (arith, inside)
 
 pub loop-i-preserved : goal.loop-i-preserved

@@ -1,13 +1,9 @@
 -- `strip_blocks::bytes::sum_1` meets its contract: the byte is the XOR of the strips so far.
 -- Assumes nothing.
-use mathlib.Core.Path.{◌≡◌, refl, ap, ◌∙◌}
-use Prim.Native.Nat.{ℕ, ◌+◌, ◌-◌, ◌*◌, ◌≤◌, ◌<◌}
-use native.Mathlib.Omega.{arith}
+use mathlib.Core.Path.{◌≡◌}
+use Prim.Native.Nat.{◌≤◌, ◌<◌}
 use Rattle.gf2.specs.Sets.{over}
 use Rattle.flat.specs.Strips.{byte_of}
-use Rattle.flat.proofs.Positions.{strip-within}
-use Rattle.strip_blocks.proofs.Summed.{over-more}
-use borrow.Author.Rules.{rules}
 use Rattle.strip_blocks.proofs.bytes.sum_1.Given as goal
 
 abbrev pub invariant-loop-i : goal.invariant-loop-i

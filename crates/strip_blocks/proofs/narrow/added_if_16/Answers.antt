@@ -1,7 +1,6 @@
 -- `strip_blocks::narrow::added_if_16` meets its contract, by the two cases of the test.
 -- Assumes nothing.
 use mathlib.Core.Path.{sym, ◌∙◌}
-use borrow.Author.Rules.{rules}
 use Rattle.strip_blocks.proofs.narrow.added_if_16.Goals as goal
 
 pub returns-then-has : goal.returns-then-has

@@ -1,9 +1,7 @@
 -- `strip_blocks::narrow::starts_zero_16` meets its contract: the OR of the bytes so far is 0 where each of them is.
 -- Assumes nothing.
 use mathlib.Core.Path.{◌≡◌, refl}
-use Prim.Native.Nat.{◌-◌, ◌≤◌}
-use lib.ListN.{get_or}
-use Rattle.strip_blocks.proofs.Loops.{Any, any_none, any-more, any-all}
+use Rattle.strip_blocks.proofs.Loops.{any_none, any-more, any-all}
 use borrow.Author.Rules.{rules}
 use Rattle.strip_blocks.proofs.narrow.starts_zero_16.Goals as goal
 

@@ -1,10 +1,8 @@
 -- `strip_blocks::narrow::starts_zero_16` meets its contract: the OR of the bytes so far is 0 where each of them is.
 -- Assumes nothing.
-use mathlib.Core.Path.{◌≡◌, refl}
-use Prim.Native.Nat.{◌-◌, ◌≤◌}
+use Prim.Native.Nat.{◌≤◌}
 use lib.ListN.{get_or}
-use Rattle.strip_blocks.proofs.Loops.{Any, any_none, any-more, any-all}
-use borrow.Author.Rules.{rules}
+use Rattle.strip_blocks.proofs.Loops.{Any}
 use Rattle.strip_blocks.proofs.narrow.starts_zero_16.Given as goal
 
 abbrev pub invariant-loop-t : goal.invariant-loop-t

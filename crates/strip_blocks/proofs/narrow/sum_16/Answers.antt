@@ -1,13 +1,12 @@
 -- `strip_blocks::narrow::sum_16` meets its contract: the block is the XOR of the strips so far.
 -- Assumes nothing.
 use mathlib.Core.Path.{◌≡◌, refl}
-use Prim.Native.Nat.{◌+◌, ◌-◌, ◌*◌, ◌≤◌}
+use Prim.Native.Nat.{◌+◌, ◌*◌, ◌≤◌}
 use native.Mathlib.Omega.{arith}
 use lib.ListN.{get_or}
 use Rattle.gf2.specs.Sets.{has, over}
-use Rattle.flat.specs.Strips.{byte_of}
 use Rattle.flat.proofs.Positions.{strip-within}
-use Rattle.strip_blocks.proofs.Summed.{Summed, summed_none, summed_if, summed_all, over-block}
+use Rattle.strip_blocks.proofs.Summed.{summed_none, summed_if, summed_all, over-block}
 use borrow.Author.Rules.{rules}
 use Rattle.strip_blocks.proofs.narrow.sum_16.Goals as goal
 
@@ -18,19 +17,19 @@ loop-i-init c = (search rules, summed_none _ _ _ (λ t. refl))
 pub overflow_mul-i : goal.overflow_mul-i
 overflow_mul-i c =
     let inside : c.loop-i.i * c.args.l + c.args.l ≤ c.args.n * c.args.l =
-        strip-within c.loop-i.i c.args.n c.args.l (omega arith) in
+    strip-within c.loop-i.i c.args.n c.args.l (omega arith) in
     omega (arith, inside)
 
 pub overflow_add-i : goal.overflow_add-i
 overflow_add-i c =
     let inside : c.loop-i.i * c.args.l + c.args.l ≤ c.args.n * c.args.l =
-        strip-within c.loop-i.i c.args.n c.args.l (omega arith) in
+    strip-within c.loop-i.i c.args.n c.args.l (omega arith) in
     omega (arith, inside)
 
 pub added_if_16-next-requires : goal.added_if_16-next-requires
 added_if_16-next-requires c =
     let inside : c.loop-i.i * c.args.l + c.args.l ≤ c.args.n * c.args.l =
-        strip-within c.loop-i.i c.args.n c.args.l (omega arith) in
+    strip-within c.loop-i.i c.args.n c.args.l (omega arith) in
     omega (arith, inside)
 
 pub loop-i-preserved : goal.loop-i-preserved

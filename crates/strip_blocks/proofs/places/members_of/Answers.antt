@@ -1,12 +1,11 @@
 -- `strip_blocks::places::members_of` meets its contract: the places of the disks so far.
 -- Assumes nothing.
 use mathlib.Core.Path.{◌≡◌, sym, ap, ◌∙◌}
-use mathlib.Core.Logic.{⊎_elim}
-use Prim.Native.Nat.{ℕ, ◌-◌, ◌*◌, ◌<◌, ◌≤◌}
+use Prim.Native.Nat.{ℕ, ◌*◌, ◌<◌, ◌≤◌}
 use native.Mathlib.Nat.{mul-le-mul_right}
 use native.Mathlib.Omega.{arith}
 use Rattle.gf2.specs.Sets.{over}
-use Rattle.strip_blocks.proofs.Placed.{Placed, placed-none, placed_skip, placed-more}
+use Rattle.strip_blocks.proofs.Placed.{placed-none, placed_skip, placed-more}
 use borrow.Author.Rules.{rules}
 use Rattle.strip_blocks.proofs.places.members_of.Goals as goal
 use Rattle.strip_blocks.proofs.places.members_of.Goals.{else-has, then-has}
@@ -23,35 +22,38 @@ overflow_mul-at c =
 pub offset_bounds-at-count : goal.offset_bounds-at-count
 offset_bounds-at-count c =
     let few : c.loop-i.count < 32 =
-        let lp = c.loop-i in
-        omega (arith, lp.invariant.1.few, c.requires) in
+    let lp = c.loop-i in
+    omega (arith, lp.invariant.1.few, c.requires) in
     record { fits = omega (arith, few) }
 
 pub bounds-at-count : goal.bounds-at-count
 bounds-at-count c =
     let few : c.loop-i.count < 32 =
-        let lp = c.loop-i in
-        omega (arith, lp.invariant.1.few, c.requires) in
+    let lp = c.loop-i in
+    omega (arith, lp.invariant.1.few, c.requires) in
     few
 
 pub overflow_add-count : goal.overflow_add-count
 overflow_add-count c =
     let few : c.loop-i.count < 32 =
-        let lp = c.loop-i in
-        omega (arith, lp.invariant.1.few, c.requires) in
+    let lp = c.loop-i in
+    omega (arith, lp.invariant.1.few, c.requires) in
     record { fits = omega (arith, few) }
 
 pub loop-i-preserved : goal.loop-i-preserved
 loop-i-preserved c =
     let lp = c.loop-i in
     let a = c.args in
-    elim c.if-has.branch [ then-has w ↦ (
-      omega arith,
-      rw (w.at-is, w.count-is) (placed-more a.set a.n 32 (λ d. d * a.l) lp.i lp.at lp.count lp.invariant.1 (omega arith) c.requires.0 (sym c.has.ensures ∙ w.if-has.true)),
-    ) | else-has w ↦ (
-      omega arith,
-      rw (w.at-is, w.count-is) (placed_skip a.set a.n 32 (λ d. d * a.l) lp.i lp.at lp.count lp.invariant.1 (sym c.has.ensures ∙ w.if-has.false)),
-    ) ]
+    elim c.if-has.branch [
+      | then-has w ↦ (
+        omega arith,
+        rw (w.at-is, w.count-is) (placed-more a.set a.n 32 (λ d. d * a.l) lp.i lp.at lp.count lp.invariant.1 (omega arith) c.requires.0 (sym c.has.ensures ∙ w.if-has.true)),
+      )
+      | else-has w ↦ (
+        omega arith,
+        rw (w.at-is, w.count-is) (placed_skip a.set a.n 32 (λ d. d * a.l) lp.i lp.at lp.count lp.invariant.1 (sym c.has.ensures ∙ w.if-has.false)),
+      )
+    ]
 
 pub returns : goal.returns
 returns c =

@@ -22,44 +22,44 @@ loop-left-init c =
 pub overflow_mul-i : goal.overflow_mul-i
 overflow_mul-i c =
     let next : Next c.args.n c.loop-left.left c.lowest-i.result =
-        next-lowest _ _ _ c.loop-left-test.true c.loop-left.invariant.0 c.lowest-i.ensures.0 in
+    next-lowest _ _ _ c.loop-left-test.true c.loop-left.invariant.0 c.lowest-i.ensures.0 in
     let inside : let a = c.args in
     c.lowest-i.result * a.l + a.l ≤ a.n * a.l =
-        let a = c.args in strip-within c.lowest-i.result a.n a.l (next).below in
+    let a = c.args in strip-within c.lowest-i.result a.n a.l (next).below in
     omega (arith, inside)
 
 pub overflow_add-i : goal.overflow_add-i
 overflow_add-i c =
     let next : Next c.args.n c.loop-left.left c.lowest-i.result =
-        next-lowest _ _ _ c.loop-left-test.true c.loop-left.invariant.0 c.lowest-i.ensures.0 in
+    next-lowest _ _ _ c.loop-left-test.true c.loop-left.invariant.0 c.lowest-i.ensures.0 in
     let inside : let a = c.args in
     c.lowest-i.result * a.l + a.l ≤ a.n * a.l =
-        let a = c.args in strip-within c.lowest-i.result a.n a.l (next).below in
+    let a = c.args in strip-within c.lowest-i.result a.n a.l (next).below in
     omega (arith, inside)
 
 pub added_16-next-requires : goal.added_16-next-requires
 added_16-next-requires c =
     let next : Next c.args.n c.loop-left.left c.lowest-i.result =
-        next-lowest _ _ _ c.loop-left-test.true c.loop-left.invariant.0 c.lowest-i.ensures.0 in
+    next-lowest _ _ _ c.loop-left-test.true c.loop-left.invariant.0 c.lowest-i.ensures.0 in
     let inside : let a = c.args in
     c.lowest-i.result * a.l + a.l ≤ a.n * a.l =
-        let a = c.args in strip-within c.lowest-i.result a.n a.l (next).below in
+    let a = c.args in strip-within c.lowest-i.result a.n a.l (next).below in
     omega (arith, inside)
 
 pub loop-left-smaller : goal.loop-left-smaller
 loop-left-smaller c =
     let next : Next c.args.n c.loop-left.left c.lowest-i.result =
-        next-lowest _ _ _ c.loop-left-test.true c.loop-left.invariant.0 c.lowest-i.ensures.0 in
+    next-lowest _ _ _ c.loop-left-test.true c.loop-left.invariant.0 c.lowest-i.ensures.0 in
     let less : c.without-left.result < c.loop-left.left =
-        subst (λ (x : ℕ). x < c.loop-left.left) (sym c.without-left.ensures) (next).less in
+    subst (λ (x : ℕ). x < c.loop-left.left) (sym c.without-left.ensures) (next).less in
     less
 
 pub loop-left-preserved : goal.loop-left-preserved
 loop-left-preserved c =
     let next : Next c.args.n c.loop-left.left c.lowest-i.result =
-        next-lowest _ _ _ c.loop-left-test.true c.loop-left.invariant.0 c.lowest-i.ensures.0 in
+    next-lowest _ _ _ c.loop-left-test.true c.loop-left.invariant.0 c.lowest-i.ensures.0 in
     let less : c.without-left.result < c.loop-left.left =
-        subst (λ (x : ℕ). x < c.loop-left.left) (sym c.without-left.ensures) (next).less in
+    subst (λ (x : ℕ). x < c.loop-left.left) (sym c.without-left.ensures) (next).less in
     let lp = c.loop-left in
     let a = c.args in
     let i = c.lowest-i.result in (

@@ -1,16 +1,8 @@
 -- `strip_blocks::walking::sum_walked_16` meets its contract: the block is the XOR of the strips that have gone by.
 -- Assumes nothing.
-use mathlib.Core.Path.{sym, subst}
-use Prim.Native.Nat.{ℕ, ◌+◌, ◌*◌, ◌^◌, ◌≤◌, ◌<◌}
-use native.Mathlib.Nat.{mod-lt}
-use native.Mathlib.Omega.{arith}
-use lib.ListN.{get_or}
-use lib.Pow.{pow_pos}
-use Rattle.gf2.specs.Sets.{◌∖◌}
-use Rattle.flat.proofs.Positions.{strip-within}
-use Rattle.strip_blocks.proofs.Summed.{Summed, summed_more}
-use Rattle.strip_blocks.proofs.Walked.{Next, next-lowest, gone_byte, gone-byte, gone-start, gone_whole}
-use borrow.Author.Rules.{rules}
+use Prim.Native.Nat.{◌^◌, ◌<◌}
+use Rattle.strip_blocks.proofs.Summed.{Summed}
+use Rattle.strip_blocks.proofs.Walked.{gone_byte}
 use Rattle.strip_blocks.proofs.walking.sum_walked_16.Given as goal
 
 abbrev pub invariant-loop-left : goal.invariant-loop-left

@@ -1,9 +1,7 @@
 -- `text::decimals::decimal_length` meets its contract: the digits counted and those of what is left are one more than all.
 -- Assumes nothing.
 use mathlib.Core.Path.{◌≡◌}
-use Prim.Native.Nat.{◌+◌, ◌^◌, ◌<◌}
 use native.Mathlib.Omega.{arith}
-use borrow.Author.Rules.{rules}
 use lib.ListN.{length}
 use Rattle.text.specs.Decimal.{decimal}
 use Rattle.text.proofs.Digits.{length-short, length-long, length_some, length-word}

@@ -1,14 +1,8 @@
 -- `text::decimals::put` meets its contract: after i turns the first i bytes are put.
 -- Assumes nothing.
-use mathlib.Core.Path.{◌≡◌}
-use Prim.Native.Nat.{◌-◌, ◌≤◌, ◌<◌}
-use native.Mathlib.Numerals.{add-one}
-use native.Mathlib.Omega.{arith}
-use borrow.Author.Rules.{rules}
+use Prim.Native.Nat.{◌≤◌}
 use lib.ListN.{length, take}
-use lib.Seq.{length-take-le, take-suc, take-length}
 use Rattle.text.specs.Places.{Put}
-use Rattle.text.proofs.Puts.{put-none, put_byte, put_then, put-length}
 use Rattle.text.proofs.decimals.put.Given as goal
 
 abbrev pub invariant-loop-i : goal.invariant-loop-i

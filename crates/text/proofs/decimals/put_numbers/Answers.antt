@@ -1,11 +1,8 @@
 -- `text::decimals::put_numbers` meets its contract: after i turns the first i pieces are put.
 -- Assumes nothing.
-use Prim.Native.Nat.{◌-◌}
 use native.Mathlib.Omega.{arith}
 use borrow.Author.Rules.{rules}
-use lib.ListN.{length}
-use Rattle.text.specs.Decimal.{spaced}
-use Rattle.text.proofs.Pieces.{Pieced, pieced_none, pieced_room, pieced_more, pieced_all}
+use Rattle.text.proofs.Pieces.{pieced_none, pieced_room, pieced_more, pieced_all}
 use Rattle.text.proofs.Puts.{put-length}
 use Rattle.text.proofs.decimals.put_numbers.Goals as goal
 

@@ -1,7 +1,6 @@
 -- `text::decimals::put_spaced` meets its contract: a space, then the number.
 -- Assumes nothing.
 use native.Mathlib.Omega.{arith}
-use borrow.Author.Rules.{rules}
 use lib.ListN.{length-set}
 use Rattle.text.specs.Decimal.{spaced}
 use Rattle.text.specs.Places.{Put}
@@ -21,7 +20,7 @@ shape_of-out c =
     let whole : let a = c.args in
     let d = c.put_decimal in
     Put (spaced a.n) a.at a.out.now d.new.out d.result =
-        put_then (put_byte 0x20 _ _) c.put_decimal.ensures in
+    put_then (put_byte 0x20 _ _) c.put_decimal.ensures in
     put-length (whole)
 
 pub returns : goal.returns
@@ -30,5 +29,5 @@ returns c =
     let whole : let a = c.args in
     let d = c.put_decimal in
     Put (spaced a.n) a.at a.out.now d.new.out d.result =
-        put_then (put_byte 0x20 _ _) c.put_decimal.ensures in
+    put_then (put_byte 0x20 _ _) c.put_decimal.ensures in
     whole

@@ -4,7 +4,6 @@ use mathlib.Core.Path.{ap, subst}
 use mathlib.Core.List.{◌++◌}
 use Prim.Native.Nat.{ℕ}
 use native.Mathlib.Omega.{arith}
-use borrow.Author.Rules.{rules}
 use lib.ListN.{length}
 use Rattle.gf2.specs.Sets.{size}
 use Rattle.text.specs.Decimal.{decimal, spaced}
@@ -24,9 +23,9 @@ unfolding entry_line
 put_spaced-after_number-requires c =
     let sized : let a = c.args in
     Put (decimal (size a.set)) a.at a.out.now c.put_decimal-after_size.new.out c.put_decimal-after_size.result =
-        let a = c.args in
-        subst (λ (n : ℕ). Put (decimal n) a.at a.out.now c.put_decimal-after_size.new.out c.put_decimal-after_size.result) c.size-size.ensures
-        c.put_decimal-after_size.ensures in
+    let a = c.args in
+    subst (λ (n : ℕ). Put (decimal n) a.at a.out.now c.put_decimal-after_size.new.out c.put_decimal-after_size.result) c.size-size.ensures
+    c.put_decimal-after_size.ensures in
     let a = c.args in
     behind (spaced a.set) (sized) (front (decimal (size a.set) ++ spaced a.set) line_end a.at c.requires)
 
@@ -35,12 +34,12 @@ unfolding entry_line
 put-requires c =
     let sized : let a = c.args in
     Put (decimal (size a.set)) a.at a.out.now c.put_decimal-after_size.new.out c.put_decimal-after_size.result =
-        let a = c.args in
-        subst (λ (n : ℕ). Put (decimal n) a.at a.out.now c.put_decimal-after_size.new.out c.put_decimal-after_size.result) c.size-size.ensures
-        c.put_decimal-after_size.ensures in
+    let a = c.args in
+    subst (λ (n : ℕ). Put (decimal n) a.at a.out.now c.put_decimal-after_size.new.out c.put_decimal-after_size.result) c.size-size.ensures
+    c.put_decimal-after_size.ensures in
     let both : let a = c.args in
     Put (decimal (size a.set) ++ spaced a.set) a.at a.out.now c.put_spaced-after_number.new.out c.put_spaced-after_number.result =
-        put_then (sized) c.put_spaced-after_number.ensures in
+    put_then (sized) c.put_spaced-after_number.ensures in
     behind line_end (both) c.requires
 
 pub returns : goal.returns
@@ -48,12 +47,12 @@ unfolding entry_line
 returns c =
     let sized : let a = c.args in
     Put (decimal (size a.set)) a.at a.out.now c.put_decimal-after_size.new.out c.put_decimal-after_size.result =
-        let a = c.args in
-        subst (λ (n : ℕ). Put (decimal n) a.at a.out.now c.put_decimal-after_size.new.out c.put_decimal-after_size.result) c.size-size.ensures
-        c.put_decimal-after_size.ensures in
+    let a = c.args in
+    subst (λ (n : ℕ). Put (decimal n) a.at a.out.now c.put_decimal-after_size.new.out c.put_decimal-after_size.result) c.size-size.ensures
+    c.put_decimal-after_size.ensures in
     let both : let a = c.args in
     Put (decimal (size a.set) ++ spaced a.set) a.at a.out.now c.put_spaced-after_number.new.out c.put_spaced-after_number.result =
-        put_then (sized) c.put_spaced-after_number.ensures in
+    put_then (sized) c.put_spaced-after_number.ensures in
     put_then (both) c.put.ensures
 
 pub shape_of-out : goal.shape_of-out

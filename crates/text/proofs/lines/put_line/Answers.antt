@@ -3,7 +3,6 @@
 -- the pieces have room
 use mathlib.Core.List.{◌++◌}
 use Prim.Native.Nat.{◌+◌, ◌≤◌}
-use borrow.Author.Rules.{rules}
 use lib.ListN.{length}
 use Rattle.flat.specs.Lists.{each}
 use Rattle.text.specs.Decimal.{spaced}
@@ -16,7 +15,7 @@ pub put-after_word-requires : goal.put-after_word-requires
 unfolding line
 put-after_word-requires c =
     let room : c.args.at + length (c.args.word.now ++ each spaced c.args.numbers.now ++ line_end) ≤ length c.args.out.now =
-        c.requires in
+    c.requires in
     let a = c.args in
     front a.word.now (each spaced a.numbers.now) a.at (front (a.word.now ++ each spaced a.numbers.now) line_end a.at (room))
 
@@ -24,7 +23,7 @@ pub put_numbers-after_numbers-requires : goal.put_numbers-after_numbers-requires
 unfolding line
 put_numbers-after_numbers-requires c =
     let room : c.args.at + length (c.args.word.now ++ each spaced c.args.numbers.now ++ line_end) ≤ length c.args.out.now =
-        c.requires in
+    c.requires in
     let a = c.args in
     behind (each spaced a.numbers.now) c.put-after_word.ensures (front (a.word.now ++ each spaced a.numbers.now) line_end a.at (room))
 
@@ -32,10 +31,10 @@ pub put-requires : goal.put-requires
 unfolding line
 put-requires c =
     let room : c.args.at + length (c.args.word.now ++ each spaced c.args.numbers.now ++ line_end) ≤ length c.args.out.now =
-        c.requires in
+    c.requires in
     let both : let a = c.args in
     Put (a.word.now ++ each spaced a.numbers.now) a.at a.out.now c.put_numbers-after_numbers.new.out c.put_numbers-after_numbers.result =
-        put_then c.put-after_word.ensures c.put_numbers-after_numbers.ensures in
+    put_then c.put-after_word.ensures c.put_numbers-after_numbers.ensures in
     behind line_end (both) (room)
 
 pub returns : goal.returns
@@ -43,7 +42,7 @@ unfolding line
 returns c =
     let both : let a = c.args in
     Put (a.word.now ++ each spaced a.numbers.now) a.at a.out.now c.put_numbers-after_numbers.new.out c.put_numbers-after_numbers.result =
-        put_then c.put-after_word.ensures c.put_numbers-after_numbers.ensures in
+    put_then c.put-after_word.ensures c.put_numbers-after_numbers.ensures in
     put_then (both) c.put.ensures
 
 pub shape_of-out : goal.shape_of-out

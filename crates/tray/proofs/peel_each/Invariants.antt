@@ -1,0 +1,15 @@
+-- `tray::peel_each` meets its contract: after i turns the first i stripes are done.
+-- Assumes nothing.
+use mathlib.Core.Path.{◌≡◌, refl}
+use Prim.Native.Nat.{◌+◌, ◌-◌, ◌*◌, ◌≤◌}
+use native.Mathlib.Omega.{arith}
+use borrow.Author.Rules.{rules}
+use lib.ListN.{length}
+use Rattle.flat.specs.Cards.{Code, code_in, disks}
+use Rattle.tray.proofs.Turning.{Turned, turn-start, turn-place, turn-steps, turn_more, turn_end}
+use Rattle.tray.proofs.peel_each.Given as goal
+
+abbrev pub invariant-loop-i : goal.invariant-loop-i
+invariant-loop-i l =
+    (l.i ≤ l.i-end) × (l.i-end ≡ length l.sets) × (length l.left ≡ 8) × (length l.tray ≡ length l.initial.tray)
+    × Turned (code_in l.k l.m l.columns) l.l l.budget l.sets l.initial.tray l.i l.steps l.left l.tray
