@@ -16,22 +16,22 @@ pub returns-then-not-column_ok : goal.returns-then-not-column_ok
 returns-then-not-column_ok c =
     let below : let a = c.args in
     c.loop-j.j < length (columns_in a.m a.columns.now) =
-        let a = c.args in
-        omega (arith, length-columns a.m a.columns.now) in
+    let a = c.args in
+    omega (arith, length-columns a.m a.columns.now) in
     let tested : let a = c.args in
     column_ok a.k (get_or (columns_in a.m a.columns.now) c.loop-j.j 0) ≡ c.column_ok.result =
-        ap (column_ok _) (column-at _ _ _ c.loop-j-test.true ∙ sym c.column.ensures) ∙ sym c.column_ok.ensures in
+    ap (column_ok _) (column-at _ _ _ c.loop-j-test.true ∙ sym c.column.ensures) ∙ sym c.column_ok.ensures in
     passed_bad _ _ _ c.loop-j.invariant (below) (tested ∙ c.if-not-column_ok.true)
 
 pub loop-j-preserved : goal.loop-j-preserved
 loop-j-preserved c =
     let below : let a = c.args in
     c.loop-j.j < length (columns_in a.m a.columns.now) =
-        let a = c.args in
-        omega (arith, length-columns a.m a.columns.now) in
+    let a = c.args in
+    omega (arith, length-columns a.m a.columns.now) in
     let tested : let a = c.args in
     column_ok a.k (get_or (columns_in a.m a.columns.now) c.loop-j.j 0) ≡ c.column_ok.result =
-        ap (column_ok _) (column-at _ _ _ c.loop-j-test.true ∙ sym c.column.ensures) ∙ sym c.column_ok.ensures in
+    ap (column_ok _) (column-at _ _ _ c.loop-j-test.true ∙ sym c.column.ensures) ∙ sym c.column_ok.ensures in
     passed-more _ _ _ c.loop-j.invariant (below) (tested ∙ c.if-not-column_ok.false)
 
 pub returns : goal.returns

@@ -1,7 +1,6 @@
 -- `repairs::equation_if_target` meets its contract, by the two cases of the test.
 -- Assumes nothing.
 use mathlib.Core.Path.{sym, ◌∙◌}
-use borrow.Author.Rules.{rules}
 use Rattle.repairs.proofs.equation_if_target.Goals as goal
 
 pub returns-then-has : goal.returns-then-has

@@ -4,7 +4,6 @@ use mathlib.Core.Path.{ap, ap₂, ◌∙◌}
 use Prim.Native.Nat.{ℕ}
 use lib.Bits.{bit_xor}
 use lib.ListN.{take}
-use borrow.Author.Rules.{rules}
 use Rattle.gf2.specs.Sets.{◌⊕◌, ◌∖◌}
 use Rattle.gf2.specs.Within.{within}
 use Rattle.gf2.proofs.Bits.{one_shifted}

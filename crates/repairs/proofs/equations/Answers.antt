@@ -1,12 +1,8 @@
 -- `repairs::equations` meets its contract: after d turns the first d places are filled, and zeros stand behind them.
 -- Assumes nothing.
 use mathlib.Core.Path.{◌≡◌, refl, ◌∙◌}
-use Prim.Native.Nat.{◌-◌, ◌≤◌}
 use native.Mathlib.Omega.{arith}
-use lib.ListN.{length, take}
-use Rattle.gf2.specs.If.{if◌then◌else◌}
 use Rattle.gf2.specs.Sets.{has}
-use Rattle.flat.specs.Lists.{padded, tabulate}
 use Rattle.flat.specs.Repairs.{equation_in}
 use Rattle.flat.proofs.Lists.{fill_none, fill_more, table_end}
 use borrow.Author.Rules.{rules}

@@ -1,12 +1,10 @@
 -- `repairs::holder` meets its contract: no row that the loop has passed holds the disk.
 -- Assumes nothing.
 use mathlib.Core.Path.{◌≡◌, refl, sym, ◌∙◌}
-use Prim.Native.Nat.{◌≤◌, ◌<◌, ◌-◌}
+use Prim.Native.Nat.{◌≤◌, ◌<◌}
 use native.Mathlib.Omega.{arith}
-use lib.ListN.{length, take}
+use lib.ListN.{length}
 use borrow.Author.Rules.{rules}
-use Rattle.gf2.proofs.Loops.{coming}
-use Rattle.flat.specs.Repairs.{holder}
 use Rattle.repairs.proofs.Laws.{holder-here, holder_later, holder_nowhere}
 use Rattle.repairs.proofs.holder.Goals as goal
 
@@ -16,7 +14,7 @@ loop-i-init c = (search rules, search rules, search rules, refl)
 pub returns-then-has : goal.returns-then-has
 returns-then-has c =
     let inside : (c.loop-i.i < c.args.basis.count) × (c.args.basis.count ≤ length c.args.basis.rows) =
-        (search rules, search rules) in
+    (search rules, search rules) in
     let h = inside in
     sym
     (c.loop-i.invariant.3
@@ -26,7 +24,7 @@ returns-then-has c =
 pub loop-i-preserved : goal.loop-i-preserved
 loop-i-preserved c =
     let inside : (c.loop-i.i < c.args.basis.count) × (c.args.basis.count ≤ length c.args.basis.rows) =
-        (search rules, search rules) in
+    (search rules, search rules) in
     let h = inside in (
       search rules,
       search rules,

@@ -1,13 +1,10 @@
 -- `repairs::holder` meets its contract: no row that the loop has passed holds the disk.
 -- Assumes nothing.
-use mathlib.Core.Path.{◌≡◌, refl, sym, ◌∙◌}
-use Prim.Native.Nat.{◌≤◌, ◌<◌, ◌-◌}
-use native.Mathlib.Omega.{arith}
+use mathlib.Core.Path.{◌≡◌}
+use Prim.Native.Nat.{◌≤◌}
 use lib.ListN.{length, take}
-use borrow.Author.Rules.{rules}
 use Rattle.gf2.proofs.Loops.{coming}
 use Rattle.flat.specs.Repairs.{holder}
-use Rattle.repairs.proofs.Laws.{holder-here, holder_later, holder_nowhere}
 use Rattle.repairs.proofs.holder.Given as goal
 
 abbrev pub invariant-loop-i : goal.invariant-loop-i

@@ -1,6 +1,5 @@
 -- `repairs::undetermined` meets its contract. Assumes nothing.
 use mathlib.Core.Path.{ap, ◌∙◌}
-use borrow.Author.Rules.{rules}
 use Rattle.gf2.specs.Sets.{union}
 use Rattle.repairs.proofs.undetermined.Goals as goal
 
