@@ -1,4 +1,4 @@
-/* The calls of libbridgecrumb.a, for C and C++. `rt staticlib bridgecrumb` writes the archive.
+/* The calls of libbridgecrumb.a, for C and C++. `tests/archive` writes it.
  *
  * An answer is one number: the documents' number of the refusal, 0 where the call is accepted, plus 256
  * times the one value that is named for it (a column, a count, a length, a set). BRIDGECRUMB_NUMBER and

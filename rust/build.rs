@@ -20,7 +20,7 @@ fn main() {
         Ok(found) if archive.is_file() => found,
         _ => {
             eprintln!("there is no {}", archive.display());
-            eprintln!("write it by `rt staticlib bridgecrumb` in the repository's root,");
+            eprintln!("write it by `tests/archive` in the repository's root,");
             eprintln!("or set BRIDGECRUMB_LIB to the folder that has libbridgecrumb.a");
             exit(1);
         }
