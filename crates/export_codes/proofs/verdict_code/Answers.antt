@@ -1,0 +1,18 @@
+-- `export_codes::verdict_code` meets its contract. Assumes nothing.
+use borrow.Author.Rules.{rules}
+use Rattle.export_codes.proofs.verdict_code.Goals as goal
+
+pub packed-requires : goal.packed-requires
+packed-requires c = rw c.in-Undetermined.is at c.requires
+
+pub fault_code-requires : goal.fault_code-requires
+fault_code-requires c = rw c.in-Card.is at c.requires
+
+pub returns-in-Undetermined : goal.returns-in-Undetermined
+returns-in-Undetermined c = rw c.in-Undetermined.is c.packed.ensures
+
+pub returns-in-Card : goal.returns-in-Card
+returns-in-Card c = rw c.in-Card.is c.fault_code.ensures
+
+pub returns-in-OutsideSet : goal.returns-in-OutsideSet
+returns-in-OutsideSet c = rw c.in-OutsideSet.is
