@@ -1,10 +1,10 @@
 -- `bases::checks` meets its contract: after j turns the first j checks stand in their places, and zeros behind them.
 -- Assumes nothing.
 use mathlib.Core.Path.{◌≡◌, refl, sym, ap, ◌∙◌, subst}
-use Prim.Native.Nat.{ℕ, ◌+◌, ◌-◌, ◌^◌, ◌≤◌, ◌<◌}
+use Prim.Native.Nat.{ℕ, ◌+◌, ◌^◌, ◌≤◌, ◌<◌}
 use native.Mathlib.Nat.{lt_of_lt_of_le}
 use native.Mathlib.Omega.{arith}
-use lib.ListN.{length, take}
+use lib.ListN.{take}
 use lib.Pow.{pow_mono}
 use Rattle.gf2.proofs.Bits.{one_shifted}
 use Rattle.gf2.proofs.Made.{add_fits}
@@ -23,11 +23,11 @@ loop-j-init c = (omega arith, refl, fill_none 16 _)
 pub overflow_add-out-in-loop-j : goal.overflow_add-out-in-loop-j
 overflow_add-out-in-loop-j c =
     let k_of : ℕ =
-        c.args.k in
+    c.args.k in
     let jOf : ℕ =
-        c.loop-j.j in
+    c.loop-j.j in
     let small : c.column.result < 2 ^ k_of =
-        subst (λ (x : ℕ). x < 2 ^ k_of) (sym c.column.ensures) (c.requires.5 (jOf) (omega arith)) in
+    subst (λ (x : ℕ). x < 2 ^ k_of) (sym c.column.ensures) (c.requires.5 (jOf) (omega arith)) in
     let h : k_of + jOf < 32 = omega arith in
     record {
       fits =
@@ -38,9 +38,9 @@ overflow_add-out-in-loop-j c =
 pub loop-j-preserved : goal.loop-j-preserved
 loop-j-preserved c =
     let k_of : ℕ =
-        c.args.k in
+    c.args.k in
     let jOf : ℕ =
-        c.loop-j.j in
+    c.loop-j.j in
     let h : k_of + jOf < 32 = omega arith in
     let l = c.loop-j in
     let a = c.args in

@@ -1,9 +1,9 @@
 -- `bases::rows` meets its contract: after i turns the first i rows stand in their places, and zeros behind them.
 -- Assumes nothing.
 use mathlib.Core.Path.{◌≡◌, refl, ap, ◌∙◌}
-use Prim.Native.Nat.{ℕ, ◌-◌, ◌≤◌}
+use Prim.Native.Nat.{ℕ}
 use native.Mathlib.Omega.{arith}
-use lib.ListN.{length, take}
+use lib.ListN.{take}
 use Rattle.flat.specs.Lists.{padded, tabulate}
 use Rattle.flat.specs.Cards.{code_in}
 use Rattle.flat.specs.Checks.{row}

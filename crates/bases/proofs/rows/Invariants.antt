@@ -1,15 +1,11 @@
 -- `bases::rows` meets its contract: after i turns the first i rows stand in their places, and zeros behind them.
 -- Assumes nothing.
-use mathlib.Core.Path.{◌≡◌, refl, ap, ◌∙◌}
-use Prim.Native.Nat.{ℕ, ◌-◌, ◌≤◌}
-use native.Mathlib.Omega.{arith}
-use lib.ListN.{length, take}
+use mathlib.Core.Path.{◌≡◌}
+use Prim.Native.Nat.{◌≤◌}
+use lib.ListN.{length}
 use Rattle.flat.specs.Lists.{padded, tabulate}
 use Rattle.flat.specs.Cards.{code_in}
 use Rattle.flat.specs.Checks.{row}
-use Rattle.flat.specs.Spans.{rows}
-use Rattle.flat.proofs.Lists.{fill_none, fill_more, length-tabulate, take-padded}
-use borrow.Author.Rules.{rules}
 use Rattle.bases.proofs.rows.Given as goal
 
 abbrev pub invariant-loop-i : goal.invariant-loop-i

@@ -2,7 +2,6 @@
 -- Assumes nothing.
 use mathlib.Core.Path.{refl}
 use native.Mathlib.Omega.{arith}
-use borrow.Author.Rules.{rules}
 use Rattle.card_writer.proofs.Putting as putting
 use Rattle.card_writer.proofs.put_card.Goals as goal
 

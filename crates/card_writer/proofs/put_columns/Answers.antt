@@ -1,11 +1,8 @@
 -- `card_writer::put_columns` meets its contract: after j turns the first j columns stand in their places.
 -- Assumes nothing.
-use mathlib.Core.Path.{◌≡◌, refl}
-use Prim.Native.Nat.{◌+◌, ◌-◌, ◌≤◌}
+use mathlib.Core.Path.{refl}
+use Prim.Native.Nat.{◌+◌}
 use native.Mathlib.Omega.{arith}
-use borrow.Author.Rules.{rules}
-use lib.ListN.{length, take}
-use Rattle.flat.specs.Lists.{each, bytes, put}
 use Rattle.card_writer.proofs.Putting.{columns-none, columns-more, columns-long, columns-all}
 use Rattle.card_writer.proofs.put_columns.Goals as goal
 

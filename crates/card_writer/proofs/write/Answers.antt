@@ -1,8 +1,7 @@
 -- `card_writer::write` meets its contract: the check's report, and the card in the buffer where it refuses nothing.
 -- Assumes nothing.
-use mathlib.Core.Path.{◌≡◌, sym, ap, ◌∙◌}
+use mathlib.Core.Path.{◌≡◌, sym, ◌∙◌}
 use mathlib.Core.List.{[]}
-use borrow.Author.Rules.{rules}
 use lib.ListN.{length}
 use Rattle.flat.specs.Cards.{code, disks}
 use Rattle.flat.specs.Faults.{card_write_report}
@@ -19,7 +18,7 @@ unfolding disks
 put_card-requires c =
     let done : let a = c.args in
     report Done ≡ card_write_report a.edition (code a.k a.m a.columns.now) a.wears.now (length a.out.now) =
-        c.in-Done.ensures in
+    c.in-Done.ensures in
     let w = writable _ _ _ _ (sym (done)) in
     let a = c.args in (
       (count_in _ w.sound.k_ok).1,
@@ -44,5 +43,5 @@ pub returns-in-Done : goal.returns-in-Done
 returns-in-Done c =
     let done : let a = c.args in
     report Done ≡ card_write_report a.edition (code a.k a.m a.columns.now) a.wears.now (length a.out.now) =
-        c.in-Done.ensures in
+    c.in-Done.ensures in
     record { result_value = c.write_check-answer.ensures; out_after = c.put_card.ensures ∙ buffer_written _ _ _ _ (done) }

@@ -1,11 +1,7 @@
 -- `converter::all_one` meets its contract: what is left of the wears is all 1 exactly where they are.
 -- Assumes nothing.
-use mathlib.Core.Path.{◌≡◌, refl}
-use Prim.Native.Nat.{◌-◌, ◌≤◌}
+use mathlib.Core.Path.{refl}
 use native.Mathlib.Omega.{arith}
-use borrow.Author.Rules.{rules}
-use lib.ListN.{length, drop}
-use Rattle.editions.specs.Converting.{all_one}
 use Rattle.converter.proofs.Answered.{ones-more, ones_other, ones-all}
 use Rattle.converter.proofs.all_one.Goals as goal
 

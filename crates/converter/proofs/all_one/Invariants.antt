@@ -1,12 +1,9 @@
 -- `converter::all_one` meets its contract: what is left of the wears is all 1 exactly where they are.
 -- Assumes nothing.
-use mathlib.Core.Path.{◌≡◌, refl}
-use Prim.Native.Nat.{◌-◌, ◌≤◌}
-use native.Mathlib.Omega.{arith}
-use borrow.Author.Rules.{rules}
+use mathlib.Core.Path.{◌≡◌}
+use Prim.Native.Nat.{◌≤◌}
 use lib.ListN.{length, drop}
 use Rattle.editions.specs.Converting.{all_one}
-use Rattle.converter.proofs.Answered.{ones-more, ones_other, ones-all}
 use Rattle.converter.proofs.all_one.Given as goal
 
 abbrev pub invariant-loop-i : goal.invariant-loop-i

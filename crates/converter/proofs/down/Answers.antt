@@ -2,8 +2,6 @@
 -- Assumes nothing.
 use mathlib.Core.Path.{sym, ap, ◌∙◌}
 use native.Mathlib.Omega.{arith}
-use borrow.Author.Tests.{not-true, not-false}
-use borrow.Author.Rules.{rules}
 use Rattle.flat.specs.Cards.{edition_two}
 use Rattle.card.specs.Reports.{report as check_report}
 use Rattle.card.proofs.Callers.{GoodCard, good}
@@ -13,53 +11,59 @@ use Rattle.converter.proofs.down.Goals as goal
 pub length-requires : goal.length-requires
 length-requires c =
     let known : GoodCard (edition_two c.args.card.now) c.in-Good.k c.in-Good.m =
-        good _ _ _ (ap check_report (sym c.in-Good.is) ∙ c.read-read.ensures.check_value) in
+    good _ _ _ (ap check_report (sym c.in-Good.is) ∙ c.read-read.ensures.check_value) in
     let g = (known).columns in (g.1, g.3)
 
 pub returns-then-out-length : goal.returns-then-out-length
 returns-then-out-length c =
-    record { result_value = (let known : GoodCard (edition_two c.args.card.now) c.in-Good.k c.in-Good.m =
-        good _ _ _ (ap check_report (sym c.in-Good.is) ∙ c.read-read.ensures.check_value) in
-    short-down _ _ _ (known) _ c.length.ensures _ c.if-out-length.true).0; out_after = (let known : GoodCard (edition_two c.args.card.now) c.in-Good.k c.in-Good.m =
-        good _ _ _ (ap check_report (sym c.in-Good.is) ∙ c.read-read.ensures.check_value) in
-    short-down _ _ _ (known) _ c.length.ensures _ c.if-out-length.true).1 }
+    record {
+      result_value = (let known : GoodCard (edition_two c.args.card.now) c.in-Good.k c.in-Good.m =
+          good _ _ _ (ap check_report (sym c.in-Good.is) ∙ c.read-read.ensures.check_value) in
+          short-down _ _ _ (known) _ c.length.ensures _ c.if-out-length.true).0;
+      out_after = (let known : GoodCard (edition_two c.args.card.now) c.in-Good.k c.in-Good.m =
+          good _ _ _ (ap check_report (sym c.in-Good.is) ∙ c.read-read.ensures.check_value) in
+          short-down _ _ _ (known) _ c.length.ensures _ c.if-out-length.true).1;
+    }
 
 pub overflow_add-n : goal.overflow_add-n
 overflow_add-n c =
     let known : GoodCard (edition_two c.args.card.now) c.in-Good.k c.in-Good.m =
-        good _ _ _ (ap check_report (sym c.in-Good.is) ∙ c.read-read.ensures.check_value) in
+    good _ _ _ (ap check_report (sym c.in-Good.is) ∙ c.read-read.ensures.check_value) in
     let g = (known).columns in omega (arith, g.1, g.3)
 
 pub slice_bounds-wears-end : goal.slice_bounds-wears-end
 slice_bounds-wears-end c =
     let known : GoodCard (edition_two c.args.card.now) c.in-Good.k c.in-Good.m =
-        good _ _ _ (ap check_report (sym c.in-Good.is) ∙ c.read-read.ensures.check_value) in
+    good _ _ _ (ap check_report (sym c.in-Good.is) ∙ c.read-read.ensures.check_value) in
     (worn_fit _ _ _ (known) _ c.read-read.ensures.wears_value).0
 
 pub slice_bounds-all_one-end : goal.slice_bounds-all_one-end
 slice_bounds-all_one-end c =
     let known : GoodCard (edition_two c.args.card.now) c.in-Good.k c.in-Good.m =
-        good _ _ _ (ap check_report (sym c.in-Good.is) ∙ c.read-read.ensures.check_value) in
+    good _ _ _ (ap check_report (sym c.in-Good.is) ∙ c.read-read.ensures.check_value) in
     (worn_fit _ _ _ (known) _ c.read-read.ensures.wears_value).1
 
 pub returns-then-not-all_one : goal.returns-then-not-all_one
 returns-then-not-all_one c =
-    record { result_value = (let known : GoodCard (edition_two c.args.card.now) c.in-Good.k c.in-Good.m =
-        good _ _ _ (ap check_report (sym c.in-Good.is) ∙ c.read-read.ensures.check_value) in
-    lossy-down _ _ _ (known) _ c.length.ensures _ c.if-out-length.false _ c.read-read.ensures.wears_value (sym (c.if-not-all_one.true) ∙ c.all_one.ensures)).0; out_after = (let known : GoodCard (edition_two c.args.card.now) c.in-Good.k c.in-Good.m =
-        good _ _ _ (ap check_report (sym c.in-Good.is) ∙ c.read-read.ensures.check_value) in
-    lossy-down _ _ _ (known) _ c.length.ensures _ c.if-out-length.false _ c.read-read.ensures.wears_value (sym (c.if-not-all_one.true) ∙ c.all_one.ensures)).1 }
+    record {
+      result_value = (let known : GoodCard (edition_two c.args.card.now) c.in-Good.k c.in-Good.m =
+          good _ _ _ (ap check_report (sym c.in-Good.is) ∙ c.read-read.ensures.check_value) in
+          lossy-down _ _ _ (known) _ c.length.ensures _ c.if-out-length.false _ c.read-read.ensures.wears_value (sym (c.if-not-all_one.true) ∙ c.all_one.ensures)).0;
+      out_after = (let known : GoodCard (edition_two c.args.card.now) c.in-Good.k c.in-Good.m =
+          good _ _ _ (ap check_report (sym c.in-Good.is) ∙ c.read-read.ensures.check_value) in
+          lossy-down _ _ _ (known) _ c.length.ensures _ c.if-out-length.false _ c.read-read.ensures.wears_value (sym (c.if-not-all_one.true) ∙ c.all_one.ensures)).1;
+    }
 
 pub slice_bounds-columns-end : goal.slice_bounds-columns-end
 slice_bounds-columns-end c =
     let known : GoodCard (edition_two c.args.card.now) c.in-Good.k c.in-Good.m =
-        good _ _ _ (ap check_report (sym c.in-Good.is) ∙ c.read-read.ensures.check_value) in
+    good _ _ _ (ap check_report (sym c.in-Good.is) ∙ c.read-read.ensures.check_value) in
     (columns_fit _ _ _ (known) _ c.read-read.ensures.columns_value).0
 
 pub slice_bounds-write-end : goal.slice_bounds-write-end
 slice_bounds-write-end c =
     let known : GoodCard (edition_two c.args.card.now) c.in-Good.k c.in-Good.m =
-        good _ _ _ (ap check_report (sym c.in-Good.is) ∙ c.read-read.ensures.check_value) in
+    good _ _ _ (ap check_report (sym c.in-Good.is) ∙ c.read-read.ensures.check_value) in
     (columns_fit _ _ _ (known) _ c.read-read.ensures.columns_value).1
 
 pub returns-in-Bad : goal.returns-in-Bad
@@ -71,10 +75,13 @@ returns-in-Bad c =
 
 pub returns-else-not-all_one : goal.returns-else-not-all_one
 returns-else-not-all_one c =
-    record { result_value = (let known : GoodCard (edition_two c.args.card.now) c.in-Good.k c.in-Good.m =
-        good _ _ _ (ap check_report (sym c.in-Good.is) ∙ c.read-read.ensures.check_value) in
-    done-down _ _ _ (known) _ c.length.ensures _ c.if-out-length.false _ c.read-read.ensures.wears_value (sym (c.if-not-all_one.false) ∙ c.all_one.ensures) _ _
-    c.read-read.ensures.columns_value c.write.ensures.out_after).0; out_after = (let known : GoodCard (edition_two c.args.card.now) c.in-Good.k c.in-Good.m =
-        good _ _ _ (ap check_report (sym c.in-Good.is) ∙ c.read-read.ensures.check_value) in
-    done-down _ _ _ (known) _ c.length.ensures _ c.if-out-length.false _ c.read-read.ensures.wears_value (sym (c.if-not-all_one.false) ∙ c.all_one.ensures) _ _
-    c.read-read.ensures.columns_value c.write.ensures.out_after).1 }
+    record {
+      result_value = (let known : GoodCard (edition_two c.args.card.now) c.in-Good.k c.in-Good.m =
+          good _ _ _ (ap check_report (sym c.in-Good.is) ∙ c.read-read.ensures.check_value) in
+          done-down _ _ _ (known) _ c.length.ensures _ c.if-out-length.false _ c.read-read.ensures.wears_value (sym (c.if-not-all_one.false) ∙ c.all_one.ensures) _ _
+          c.read-read.ensures.columns_value c.write.ensures.out_after).0;
+      out_after = (let known : GoodCard (edition_two c.args.card.now) c.in-Good.k c.in-Good.m =
+          good _ _ _ (ap check_report (sym c.in-Good.is) ∙ c.read-read.ensures.check_value) in
+          done-down _ _ _ (known) _ c.length.ensures _ c.if-out-length.false _ c.read-read.ensures.wears_value (sym (c.if-not-all_one.false) ∙ c.all_one.ensures) _ _
+          c.read-read.ensures.columns_value c.write.ensures.out_after).1;
+    }

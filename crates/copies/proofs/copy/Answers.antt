@@ -1,9 +1,8 @@
 -- `copies::copy` meets its contract: a copy is made byte by byte.
 -- Assumes nothing.
 use mathlib.Core.Path.{◌≡◌, refl}
-use Prim.Native.Nat.{◌-◌, ◌≤◌}
 use lib.ListN.{length}
-use Rattle.strip_blocks.proofs.Loops.{Copied, copied_none, copied_more, copied_all}
+use Rattle.strip_blocks.proofs.Loops.{copied_none, copied_more, copied_all}
 use borrow.Author.Rules.{rules}
 use Rattle.copies.proofs.copy.Goals as goal
 

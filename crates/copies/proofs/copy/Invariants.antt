@@ -1,10 +1,9 @@
 -- `copies::copy` meets its contract: a copy is made byte by byte.
 -- Assumes nothing.
-use mathlib.Core.Path.{◌≡◌, refl}
-use Prim.Native.Nat.{◌-◌, ◌≤◌}
+use mathlib.Core.Path.{◌≡◌}
+use Prim.Native.Nat.{◌≤◌}
 use lib.ListN.{length}
-use Rattle.strip_blocks.proofs.Loops.{Copied, copied_none, copied_more, copied_all}
-use borrow.Author.Rules.{rules}
+use Rattle.strip_blocks.proofs.Loops.{Copied}
 use Rattle.copies.proofs.copy.Given as goal
 
 abbrev pub invariant-loop-t : goal.invariant-loop-t

@@ -1,7 +1,6 @@
 -- `encoder::bits_of` meets its contract: the rows so far are stored.
 -- Assumes nothing.
-use Prim.Native.Nat.{◌-◌, ◌≤◌}
-use Rattle.encoder.proofs.Laws.{Stored, stored-none, stored_more}
+use Rattle.encoder.proofs.Laws.{stored-none, stored_more}
 use borrow.Author.Rules.{rules}
 use Rattle.encoder.proofs.bits_of.Goals as goal
 

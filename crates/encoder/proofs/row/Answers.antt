@@ -1,9 +1,9 @@
 -- `encoder::row` meets its contract: the bits are stored place by place.
 -- Assumes nothing.
 use mathlib.Core.Path.{◌≡◌, ap}
-use Prim.Native.Nat.{ℕ, ◌-◌, ◌*◌, ◌/◌, ◌%◌, ◌^◌, ◌≤◌}
+use Prim.Native.Nat.{ℕ, ◌/◌, ◌%◌, ◌^◌}
 use Rattle.gf2.specs.Sets.{bit}
-use Rattle.strip_blocks.proofs.Runs.{Run, run_none, run_byte, run_all}
+use Rattle.strip_blocks.proofs.Runs.{run_none, run_byte, run_all}
 use Rattle.encoder.proofs.Laws.{column_bit}
 use borrow.Author.Rules.{rules}
 use Rattle.encoder.proofs.row.Goals as goal

@@ -1,7 +1,6 @@
 -- `equations::list` meets its contract. Assumes nothing.
 use mathlib.Core.Path.{◌≡◌, sym, ap, ◌∙◌}
 use native.Mathlib.Omega.{arith}
-use borrow.Author.Rules.{rules}
 use lib.ListN.{length}
 use Rattle.flat.specs.Cards.{card_of}
 use Rattle.flat.specs.Faults.{equations_report}
@@ -14,25 +13,25 @@ use Rattle.equations.proofs.list.Goals as goal
 pub overflow_add-k : goal.overflow_add-k
 overflow_add-k c =
     let known : GoodCard (card_of c.args.edition c.args.card.now) c.in-Good.k c.in-Good.m =
-        good _ _ _ (ap check_report (sym c.in-Good.is) ∙ c.check.ensures) in
+    good _ _ _ (ap check_report (sym c.in-Good.is) ∙ c.check.ensures) in
     let g = (known).columns in record { fits = omega (arith, g.1, g.3) }
 
 pub returns-then-k-m : goal.returns-then-k-m
 returns-then-k-m c =
     let known : GoodCard (card_of c.args.edition c.args.card.now) c.in-Good.k c.in-Good.m =
-        good _ _ _ (ap check_report (sym c.in-Good.is) ∙ c.check.ensures) in
+    good _ _ _ (ap check_report (sym c.in-Good.is) ∙ c.check.ensures) in
     let g = known in record { result_value = outside-report _ _ _ _ g c.if-k-m.true _; out_after = outside_slice _ _ _ _ g c.if-k-m.true _ }
 
 pub columns-requires : goal.columns-requires
 columns-requires c =
     let known : GoodCard (card_of c.args.edition c.args.card.now) c.in-Good.k c.in-Good.m =
-        good _ _ _ (ap check_report (sym c.in-Good.is) ∙ c.check.ensures) in
+    good _ _ _ (ap check_report (sym c.in-Good.is) ∙ c.check.ensures) in
     (known).whole
 
 pub list_columns-requires : goal.list_columns-requires
 list_columns-requires c =
     let known : GoodCard (card_of c.args.edition c.args.card.now) c.in-Good.k c.in-Good.m =
-        good _ _ _ (ap check_report (sym c.in-Good.is) ∙ c.check.ensures) in
+    good _ _ _ (ap check_report (sym c.in-Good.is) ∙ c.check.ensures) in
     (rw c.columns.ensures (known).columns, c.if-k-m.false)
 
 pub returns-in-Bad : goal.returns-in-Bad
@@ -44,7 +43,7 @@ returns-in-Bad c =
 pub returns-else-k-m : goal.returns-else-k-m
 returns-else-k-m c =
     let known : GoodCard (card_of c.args.edition c.args.card.now) c.in-Good.k c.in-Good.m =
-        good _ _ _ (ap check_report (sym c.in-Good.is) ∙ c.check.ensures) in
+    good _ _ _ (ap check_report (sym c.in-Good.is) ∙ c.check.ensures) in
     let v = c.list_columns in
     let are = c.columns.ensures in
     let g = known in

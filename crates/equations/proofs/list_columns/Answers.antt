@@ -4,7 +4,6 @@ use mathlib.Core.Path.{◌≡◌, refl, sym, ap, ap₂, ◌∙◌, subst}
 use mathlib.Core.List.{List}
 use Prim.Native.Nat.{ℕ, ◌*◌, ◌%◌, ◌^◌, ◌≤◌, ◌<◌}
 use native.Mathlib.Omega.{arith}
-use borrow.Author.Rules.{rules}
 use lib.ListN.{length, get_or, take}
 use Rattle.gf2.proofs.Bits.{one_shifted}
 use Rattle.flat.specs.Cards.{Code, disks, code_in}
@@ -32,48 +31,48 @@ mark-requires c =
 pub starts-places-requires : goal.starts-places-requires
 starts-places-requires c =
     let code_at : Code =
-        code_in c.args.k c.args.m c.args.columns.now in
+    code_in c.args.k c.args.m c.args.columns.now in
     let rows_few : length (take c.checks-basis.result.count c.checks-basis.result.rows) ≤ 16 =
-        let b = c.checks-basis in
-        omega (arith, ap length (taken c.args.m _ _ _ b.ensures.0 b.ensures.1), checks-length (code_at)) in
+    let b = c.checks-basis in
+    omega (arith, ap length (taken c.args.m _ _ _ b.ensures.0 b.ensures.1), checks-length (code_at)) in
     λ v h. subst (λ (l : List ℕ). get_or l v 0 < 65536) (sym c.mark.ensures.value) (tally-small _ _ _ v (rows_few) h)
 
 pub returns-then-out-count : goal.returns-then-out-count
 unfolding unless_refused disks
 returns-then-out-count c =
     let code_at : Code =
-        code_in c.args.k c.args.m c.args.columns.now in
+    code_in c.args.k c.args.m c.args.columns.now in
     let shifted : ℕ =
-        (1 * 2 ^ c.args.disk) % 2 ^ 32 in
+    (1 * 2 ^ c.args.disk) % 2 ^ 32 in
     let listed-is : listed (take c.checks-basis.result.count c.checks-basis.result.rows) (shifted) c.parities-mask.result
     ≡ equations (code_at) c.args.disk =
-        let b = c.checks-basis in
-        ap₂ (λ (l : List ℕ) (S : ℕ). listed l S c.parities-mask.result) (taken c.args.m _ _ _ b.ensures.0 b.ensures.1)
-        (one_shifted c.args.disk (omega arith))
-        ∙ ap (listed (checks (code_at)) (2 ^ c.args.disk)) c.parities-mask.ensures
-        ∙ listed-equations (code_at) c.args.disk (omega arith) (omega arith) in
+    let b = c.checks-basis in
+    ap₂ (λ (l : List ℕ) (S : ℕ). listed l S c.parities-mask.result) (taken c.args.m _ _ _ b.ensures.0 b.ensures.1)
+    (one_shifted c.args.disk (omega arith))
+    ∙ ap (listed (checks (code_at)) (2 ^ c.args.disk)) c.parities-mask.ensures
+    ∙ listed-equations (code_at) c.args.disk (omega arith) (omega arith) in
     let counted : get_or c.starts-places.result keys 0 ≡ length (equations (code_at) c.args.disk) =
-        ap (λ (l : List ℕ). get_or l keys 0) (c.starts-places.ensures ∙ ap starts c.mark.ensures.value)
-        ∙ starts-last _ _ _ _ (listed-is) in
+    ap (λ (l : List ℕ). get_or l keys 0) (c.starts-places.ensures ∙ ap starts c.mark.ensures.value)
+    ∙ starts-last _ _ _ _ (listed-is) in
     record { result_value = list-short (equations (code_at) c.args.disk) _ _ (counted) c.if-out-count.true; out_after = refl }
 
 pub fill-requires : goal.fill-requires
 unfolding disks
 fill-requires c =
     let code_at : Code =
-        code_in c.args.k c.args.m c.args.columns.now in
+    code_in c.args.k c.args.m c.args.columns.now in
     let shifted : ℕ =
-        (1 * 2 ^ c.args.disk) % 2 ^ 32 in
+    (1 * 2 ^ c.args.disk) % 2 ^ 32 in
     let listed-is : listed (take c.checks-basis.result.count c.checks-basis.result.rows) (shifted) c.parities-mask.result
     ≡ equations (code_at) c.args.disk =
-        let b = c.checks-basis in
-        ap₂ (λ (l : List ℕ) (S : ℕ). listed l S c.parities-mask.result) (taken c.args.m _ _ _ b.ensures.0 b.ensures.1)
-        (one_shifted c.args.disk (omega arith))
-        ∙ ap (listed (checks (code_at)) (2 ^ c.args.disk)) c.parities-mask.ensures
-        ∙ listed-equations (code_at) c.args.disk (omega arith) (omega arith) in
+    let b = c.checks-basis in
+    ap₂ (λ (l : List ℕ) (S : ℕ). listed l S c.parities-mask.result) (taken c.args.m _ _ _ b.ensures.0 b.ensures.1)
+    (one_shifted c.args.disk (omega arith))
+    ∙ ap (listed (checks (code_at)) (2 ^ c.args.disk)) c.parities-mask.ensures
+    ∙ listed-equations (code_at) c.args.disk (omega arith) (omega arith) in
     let counted : get_or c.starts-places.result keys 0 ≡ length (equations (code_at) c.args.disk) =
-        ap (λ (l : List ℕ). get_or l keys 0) (c.starts-places.ensures ∙ ap starts c.mark.ensures.value)
-        ∙ starts-last _ _ _ _ (listed-is) in
+    ap (λ (l : List ℕ). get_or l keys 0) (c.starts-places.ensures ∙ ap starts c.mark.ensures.value)
+    ∙ starts-last _ _ _ _ (listed-is) in
     let m = c.mark in
     record { count_bound = (omega arith, m.ensures.marked); places_value = c.starts-places.ensures ∙ ap starts m.ensures.value; mask_in_bounds = omega (arith, ap length (listed-is), counted) }
 
@@ -81,17 +80,17 @@ pub returns : goal.returns
 unfolding unless_refused disks
 returns c =
     let code_at : Code =
-        code_in c.args.k c.args.m c.args.columns.now in
+    code_in c.args.k c.args.m c.args.columns.now in
     let shifted : ℕ =
-        (1 * 2 ^ c.args.disk) % 2 ^ 32 in
+    (1 * 2 ^ c.args.disk) % 2 ^ 32 in
     let listed-is : listed (take c.checks-basis.result.count c.checks-basis.result.rows) (shifted) c.parities-mask.result
     ≡ equations (code_at) c.args.disk =
-        let b = c.checks-basis in
-        ap₂ (λ (l : List ℕ) (S : ℕ). listed l S c.parities-mask.result) (taken c.args.m _ _ _ b.ensures.0 b.ensures.1)
-        (one_shifted c.args.disk (omega arith))
-        ∙ ap (listed (checks (code_at)) (2 ^ c.args.disk)) c.parities-mask.ensures
-        ∙ listed-equations (code_at) c.args.disk (omega arith) (omega arith) in
+    let b = c.checks-basis in
+    ap₂ (λ (l : List ℕ) (S : ℕ). listed l S c.parities-mask.result) (taken c.args.m _ _ _ b.ensures.0 b.ensures.1)
+    (one_shifted c.args.disk (omega arith))
+    ∙ ap (listed (checks (code_at)) (2 ^ c.args.disk)) c.parities-mask.ensures
+    ∙ listed-equations (code_at) c.args.disk (omega arith) (omega arith) in
     let counted : get_or c.starts-places.result keys 0 ≡ length (equations (code_at) c.args.disk) =
-        ap (λ (l : List ℕ). get_or l keys 0) (c.starts-places.ensures ∙ ap starts c.mark.ensures.value)
-        ∙ starts-last _ _ _ _ (listed-is) in
+    ap (λ (l : List ℕ). get_or l keys 0) (c.starts-places.ensures ∙ ap starts c.mark.ensures.value)
+    ∙ starts-last _ _ _ _ (listed-is) in
     record { result_value = list_fits (equations (code_at) c.args.disk) _ _ (counted) c.if-out-count.false; out_after = c.fill.ensures ∙ ap (λ (l : List ℕ). list_slice l c.args.out.now) (listed-is) }

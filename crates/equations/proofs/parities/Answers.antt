@@ -1,6 +1,5 @@
 -- `equations::parities` meets its contract. Assumes nothing.
 use native.Mathlib.Omega.{arith}
-use borrow.Author.Rules.{rules}
 use Rattle.equations.proofs.Laws.{parities_are}
 use Rattle.equations.proofs.parities.Goals as goal
 

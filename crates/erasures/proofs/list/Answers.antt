@@ -1,6 +1,5 @@
 -- `erasures::list` meets its contract. Assumes nothing.
 use mathlib.Core.Path.{◌≡◌, sym, ap, ◌∙◌}
-use borrow.Author.Rules.{rules}
 use lib.ListN.{length}
 use Rattle.flat.specs.Faults.{erasures_report}
 use Rattle.flat.specs.Cards.{Card, card_of}
@@ -13,17 +12,17 @@ use Rattle.erasures.proofs.list.Goals as goal
 pub columns-requires : goal.columns-requires
 columns-requires c =
     let cardAt : Card =
-        let a = c.args in card_of a.edition a.card.now in
+    let a = c.args in card_of a.edition a.card.now in
     let known : GoodCard (cardAt) c.in-Good.k c.in-Good.m =
-        good _ _ _ (ap check_report (sym c.in-Good.is) ∙ c.check.ensures) in
+    good _ _ _ (ap check_report (sym c.in-Good.is) ∙ c.check.ensures) in
     (known).whole
 
 pub list_columns-requires : goal.list_columns-requires
 list_columns-requires c =
     let cardAt : Card =
-        let a = c.args in card_of a.edition a.card.now in
+    let a = c.args in card_of a.edition a.card.now in
     let known : GoodCard (cardAt) c.in-Good.k c.in-Good.m =
-        good _ _ _ (ap check_report (sym c.in-Good.is) ∙ c.check.ensures) in
+    good _ _ _ (ap check_report (sym c.in-Good.is) ∙ c.check.ensures) in
     rw c.columns.ensures (known).columns
 
 pub returns-in-Bad : goal.returns-in-Bad
@@ -35,9 +34,9 @@ returns-in-Bad c =
 pub returns-in-Good : goal.returns-in-Good
 returns-in-Good c =
     let cardAt : Card =
-        let a = c.args in card_of a.edition a.card.now in
+    let a = c.args in card_of a.edition a.card.now in
     let known : GoodCard (cardAt) c.in-Good.k c.in-Good.m =
-        good _ _ _ (ap check_report (sym c.in-Good.is) ∙ c.check.ensures) in
+    good _ _ _ (ap check_report (sym c.in-Good.is) ∙ c.check.ensures) in
     let g = known in
     let slice = c.args.out.now in
     let v = c.list_columns in

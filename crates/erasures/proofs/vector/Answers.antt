@@ -1,13 +1,13 @@
 -- `erasures::vector` meets its contract: after i turns the first i places are filled, and zeros stand behind them.
 -- Assumes nothing.
 use mathlib.Core.Path.{◌≡◌, refl, ap, ◌∙◌}
-use Prim.Native.Nat.{ℕ, ◌+◌, ◌-◌, ◌*◌, ◌≤◌}
+use Prim.Native.Nat.{ℕ, ◌+◌, ◌*◌}
 use native.Mathlib.Omega.{arith}
 use borrow.Author.Rules.{rules}
-use lib.ListN.{length, get_or}
+use lib.ListN.{get_or}
 use Rattle.flat.specs.Lists.{padded, tabulate}
 use Rattle.flat.proofs.Lists.{fill_none, fill_more}
-use Rattle.minimal_words.specs.Listed.{sizes, keys}
+use Rattle.minimal_words.specs.Listed.{sizes}
 use Rattle.erasures.proofs.vector.Goals as goal
 
 pub loop-i-init : goal.loop-i-init

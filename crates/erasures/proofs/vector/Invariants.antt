@@ -1,12 +1,9 @@
 -- `erasures::vector` meets its contract: after i turns the first i places are filled, and zeros stand behind them.
 -- Assumes nothing.
-use mathlib.Core.Path.{◌≡◌, refl, ap, ◌∙◌}
-use Prim.Native.Nat.{ℕ, ◌+◌, ◌-◌, ◌*◌, ◌≤◌}
-use native.Mathlib.Omega.{arith}
-use borrow.Author.Rules.{rules}
+use mathlib.Core.Path.{◌≡◌}
+use Prim.Native.Nat.{◌+◌, ◌*◌, ◌≤◌}
 use lib.ListN.{length, get_or}
 use Rattle.flat.specs.Lists.{padded, tabulate}
-use Rattle.flat.proofs.Lists.{fill_none, fill_more}
 use Rattle.minimal_words.specs.Listed.{sizes, keys}
 use Rattle.erasures.proofs.vector.Given as goal
 

@@ -1,5 +1,4 @@
 -- `export_codes::encoded_code` meets its contract. Assumes nothing.
-use borrow.Author.Rules.{rules}
 use Rattle.export_codes.proofs.encoded_code.Goals as goal
 
 pub fault_code-requires : goal.fault_code-requires

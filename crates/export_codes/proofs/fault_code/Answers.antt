@@ -1,7 +1,6 @@
 -- `export_codes::fault_code` meets its contract. Assumes nothing.
 use mathlib.Core.Path.{ap₂, ◌∙◌}
 use Prim.Native.Nat.{ℕ, ◌+◌, ◌*◌}
-use borrow.Author.Rules.{rules}
 use Rattle.export_codes.proofs.fault_code.Goals as goal
 
 pub packed-requires : goal.packed-requires

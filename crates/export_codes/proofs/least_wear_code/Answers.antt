@@ -1,5 +1,4 @@
 -- `export_codes::least_wear_code` meets its contract. Assumes nothing.
-use borrow.Author.Rules.{rules}
 use Rattle.export_codes.proofs.least_wear_code.Goals as goal
 
 pub packed-requires : goal.packed-requires

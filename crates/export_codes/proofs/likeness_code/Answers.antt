@@ -1,5 +1,4 @@
 -- `export_codes::likeness_code` meets its contract. Assumes nothing.
-use borrow.Author.Rules.{rules}
 use Rattle.export_codes.proofs.likeness_code.Goals as goal
 
 pub fault_code-requires : goal.fault_code-requires

@@ -1,5 +1,4 @@
 -- `export_codes::rebuilt_code` meets its contract. Assumes nothing.
-use borrow.Author.Rules.{rules}
 use Rattle.export_codes.proofs.rebuilt_code.Goals as goal
 
 pub packed-requires : goal.packed-requires

@@ -1,5 +1,4 @@
 -- `export_codes::stepped_code` meets its contract. Assumes nothing.
-use borrow.Author.Rules.{rules}
 use Rattle.export_codes.proofs.stepped_code.Goals as goal
 
 pub returns-in-Done : goal.returns-in-Done

@@ -1,5 +1,4 @@
 -- `export_codes::told_code` meets its contract. Assumes nothing.
-use borrow.Author.Rules.{rules}
 use Rattle.export_codes.proofs.told_code.Goals as goal
 
 pub packed-requires : goal.packed-requires

@@ -11,7 +11,7 @@ unfolding over
 loop-i-init c = (search rules, refl)
 
 pub loop-i-preserved : goal.loop-i-preserved
-loop-i-preserved c = (search rules, over-step _ _ _ _ _ c.loop-i.invariant.1 c.chosen-word.ensures)
+loop-i-preserved c = (search rules, search (rules, over-step))
 
 pub returns : goal.returns
 returns c = select_end _ _ _ _ c.loop-i.invariant.1 (search rules)

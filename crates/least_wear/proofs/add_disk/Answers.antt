@@ -2,9 +2,8 @@
 -- Assumes nothing.
 use mathlib.Core.Path.{◌≡◌, refl, sym, ap, ◌∙◌, subst}
 use mathlib.Core.List.{List}
-use Prim.Native.Nat.{ℕ, ◌+◌, ◌-◌, ◌*◌, ◌/◌, ◌%◌, ◌^◌, ◌≤◌, ◌<◌}
+use Prim.Native.Nat.{ℕ, ◌+◌, ◌*◌, ◌/◌, ◌%◌, ◌^◌, ◌≤◌, ◌<◌}
 use native.Mathlib.Omega.{arith}
-use borrow.Author.Rules.{rules}
 use lib.ListN.{length, get_or}
 use Rattle.least_wear.specs.Forms.{weight_of, table_to}
 use Rattle.least_wear.proofs.Ranks.{weight-most}
@@ -14,17 +13,17 @@ use Rattle.least_wear.proofs.add_disk.Goals as goal
 pub loop-b-init : goal.loop-b-init
 loop-b-init c =
     let i : ℕ =
-        c.args.i in
+    c.args.i in
     let wears : List ℕ =
-        c.args.wears.now in
+    c.args.wears.now in
     let weights : ℕ → ℕ =
-        weight_of c.args.k wears in
+    weight_of c.args.k wears in
     let half : ℕ =
-        (1 * 2 ^ (i % 8)) % 2 ^ 64 in
+    (1 * 2 ^ (i % 8)) % 2 ^ 64 in
     let half_is : half ≡ 2 ^ (i % 8) =
-        omega (arith, (half-few i).1) in
+    omega (arith, (half-few i).1) in
     let room : 256 * (i / 8) + half + half ≤ 1024 =
-        omega (arith, c.requires.0, (half-few i).1) in
+    omega (arith, c.requires.0, (half-few i).1) in
     let t = c.requires.2 ∙ disk-first (weights) (i) c.requires.0 in
     let e : 256 * (i / 8) + 2 ^ (i % 8) ≡ 256 * (i / 8) + half + 0 = omega (arith, half_is) in
     let filled = t ∙ ap (table_to (weights)) e in
@@ -33,45 +32,45 @@ loop-b-init c =
 pub overflow_add-table : goal.overflow_add-table
 overflow_add-table c =
     let i : ℕ =
-        c.args.i in
+    c.args.i in
     let half : ℕ =
-        (1 * 2 ^ (i % 8)) % 2 ^ 64 in
+    (1 * 2 ^ (i % 8)) % 2 ^ 64 in
     let room : 256 * (i / 8) + half + half ≤ 1024 =
-        omega (arith, c.requires.0, (half-few i).1) in
+    omega (arith, c.requires.0, (half-few i).1) in
     record { fits = omega (arith, c.loop-b-test.true, room) }
 
 pub offset_bounds-table-at : goal.offset_bounds-table-at
 offset_bounds-table-at c =
     let i : ℕ =
-        c.args.i in
+    c.args.i in
     let half : ℕ =
-        (1 * 2 ^ (i % 8)) % 2 ^ 64 in
+    (1 * 2 ^ (i % 8)) % 2 ^ 64 in
     let room : 256 * (i / 8) + half + half ≤ 1024 =
-        omega (arith, c.requires.0, (half-few i).1) in
+    omega (arith, c.requires.0, (half-few i).1) in
     record { fits = omega (arith, c.loop-b-test.true, room) }
 
 pub bounds-table-at : goal.bounds-table-at
 bounds-table-at c =
     let i : ℕ =
-        c.args.i in
+    c.args.i in
     let half : ℕ =
-        (1 * 2 ^ (i % 8)) % 2 ^ 64 in
+    (1 * 2 ^ (i % 8)) % 2 ^ 64 in
     let room : 256 * (i / 8) + half + half ≤ 1024 =
-        omega (arith, c.requires.0, (half-few i).1) in
+    omega (arith, c.requires.0, (half-few i).1) in
     omega (arith, c.loop-b-test.true, room)
 
 pub overflow_add-table-in-loop-b : goal.overflow_add-table-in-loop-b
 overflow_add-table-in-loop-b c =
     let i : ℕ =
-        c.args.i in
+    c.args.i in
     let wears : List ℕ =
-        c.args.wears.now in
+    c.args.wears.now in
     let weights : ℕ → ℕ =
-        weight_of c.args.k wears in
+    weight_of c.args.k wears in
     let half : ℕ =
-        (1 * 2 ^ (i % 8)) % 2 ^ 64 in
+    (1 * 2 ^ (i % 8)) % 2 ^ 64 in
     let most : (j : ℕ) → weights j ≤ 522273 =
-        λ j. weight-most c.args.k wears j (omega (arith, c.shared_slice_known-1.given j)) in
+    λ j. weight-most c.args.k wears j (omega (arith, c.shared_slice_known-1.given j)) in
     let l = c.loop-b in
     let at = 256 * (i / 8) in
     let old = subst (λ (t : List ℕ). get_or t (at + l.b) 0 < 2 ^ 24) (sym l.invariant.2) (table-small (weights) (most) (at + half + l.b) (at + l.b)) in
@@ -81,57 +80,57 @@ overflow_add-table-in-loop-b c =
 pub overflow_add-table-in-loop-b-2 : goal.overflow_add-table-in-loop-b-2
 overflow_add-table-in-loop-b-2 c =
     let i : ℕ =
-        c.args.i in
+    c.args.i in
     let half : ℕ =
-        (1 * 2 ^ (i % 8)) % 2 ^ 64 in
+    (1 * 2 ^ (i % 8)) % 2 ^ 64 in
     let room : 256 * (i / 8) + half + half ≤ 1024 =
-        omega (arith, c.requires.0, (half-few i).1) in
+    omega (arith, c.requires.0, (half-few i).1) in
     record { fits = omega (arith, c.loop-b-test.true, room) }
 
 pub overflow_add-table-in-loop-b-3 : goal.overflow_add-table-in-loop-b-3
 overflow_add-table-in-loop-b-3 c =
     let i : ℕ =
-        c.args.i in
+    c.args.i in
     let half : ℕ =
-        (1 * 2 ^ (i % 8)) % 2 ^ 64 in
+    (1 * 2 ^ (i % 8)) % 2 ^ 64 in
     let room : 256 * (i / 8) + half + half ≤ 1024 =
-        omega (arith, c.requires.0, (half-few i).1) in
+    omega (arith, c.requires.0, (half-few i).1) in
     record { fits = omega (arith, c.loop-b-test.true, room) }
 
 pub offset_bounds-table-at-in-loop-b : goal.offset_bounds-table-at-in-loop-b
 offset_bounds-table-at-in-loop-b c =
     let i : ℕ =
-        c.args.i in
+    c.args.i in
     let half : ℕ =
-        (1 * 2 ^ (i % 8)) % 2 ^ 64 in
+    (1 * 2 ^ (i % 8)) % 2 ^ 64 in
     let room : 256 * (i / 8) + half + half ≤ 1024 =
-        omega (arith, c.requires.0, (half-few i).1) in
+    omega (arith, c.requires.0, (half-few i).1) in
     record { fits = omega (arith, c.loop-b-test.true, room) }
 
 pub bounds-table-at-in-loop-b : goal.bounds-table-at-in-loop-b
 bounds-table-at-in-loop-b c =
     let i : ℕ =
-        c.args.i in
+    c.args.i in
     let half : ℕ =
-        (1 * 2 ^ (i % 8)) % 2 ^ 64 in
+    (1 * 2 ^ (i % 8)) % 2 ^ 64 in
     let room : 256 * (i / 8) + half + half ≤ 1024 =
-        omega (arith, c.requires.0, (half-few i).1) in
+    omega (arith, c.requires.0, (half-few i).1) in
     omega (arith, c.loop-b-test.true, room)
 
 pub loop-b-preserved : goal.loop-b-preserved
 loop-b-preserved c =
     let i : ℕ =
-        c.args.i in
+    c.args.i in
     let wears : List ℕ =
-        c.args.wears.now in
+    c.args.wears.now in
     let weights : ℕ → ℕ =
-        weight_of c.args.k wears in
+    weight_of c.args.k wears in
     let half : ℕ =
-        (1 * 2 ^ (i % 8)) % 2 ^ 64 in
+    (1 * 2 ^ (i % 8)) % 2 ^ 64 in
     let half_is : half ≡ 2 ^ (i % 8) =
-        omega (arith, (half-few i).1) in
+    omega (arith, (half-few i).1) in
     let room : 256 * (i / 8) + half + half ≤ 1024 =
-        omega (arith, c.requires.0, (half-few i).1) in
+    omega (arith, c.requires.0, (half-few i).1) in
     let l = c.loop-b in
     let at = 256 * (i / 8) in
     let t = c.loop-b-test.true in
@@ -143,14 +142,14 @@ loop-b-preserved c =
 pub returns : goal.returns
 returns c =
     let i : ℕ =
-        c.args.i in
+    c.args.i in
     let wears : List ℕ =
-        c.args.wears.now in
+    c.args.wears.now in
     let weights : ℕ → ℕ =
-        weight_of c.args.k wears in
+    weight_of c.args.k wears in
     let half : ℕ =
-        (1 * 2 ^ (i % 8)) % 2 ^ 64 in
+    (1 * 2 ^ (i % 8)) % 2 ^ 64 in
     let half_is : half ≡ 2 ^ (i % 8) =
-        omega (arith, (half-few i).1) in
+    omega (arith, (half-few i).1) in
     let l = c.loop-b in
     l.invariant.2 ∙ disk-all (weights) (i) (256 * (i / 8)) (half) l.b refl (half_is) (omega (arith, c.loop-b-test.false, l.invariant.0))

@@ -1,14 +1,9 @@
 -- `least_wear::add_disk` meets its contract: the first b sets with the disk are there, each out of that without it.
 -- Assumes nothing.
-use mathlib.Core.Path.{◌≡◌, refl, sym, ap, ◌∙◌, subst}
-use mathlib.Core.List.{List}
-use Prim.Native.Nat.{ℕ, ◌+◌, ◌-◌, ◌*◌, ◌/◌, ◌%◌, ◌^◌, ◌≤◌, ◌<◌}
-use native.Mathlib.Omega.{arith}
-use borrow.Author.Rules.{rules}
-use lib.ListN.{length, get_or}
+use mathlib.Core.Path.{◌≡◌}
+use Prim.Native.Nat.{◌+◌, ◌≤◌}
+use lib.ListN.{length}
 use Rattle.least_wear.specs.Forms.{weight_of, table_to}
-use Rattle.least_wear.proofs.Ranks.{weight-most}
-use Rattle.least_wear.proofs.Tables.{half-few, table-long, table-small, disk-first, disk-more, disk-all}
 use Rattle.least_wear.proofs.add_disk.Given as goal
 
 abbrev pub invariant-loop-b : goal.invariant-loop-b

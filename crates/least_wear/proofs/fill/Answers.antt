@@ -1,9 +1,8 @@
 -- `least_wear::fill` meets its contract: the disks below i are in the table.
 -- Assumes nothing.
 use mathlib.Core.Path.{◌≡◌, ap, ◌∙◌}
-use Prim.Native.Nat.{ℕ, ◌+◌, ◌-◌, ◌≤◌}
+use Prim.Native.Nat.{ℕ, ◌+◌}
 use native.Mathlib.Omega.{arith}
-use borrow.Author.Rules.{rules}
 use lib.ListN.{length}
 use Rattle.least_wear.specs.Forms.{weight_of, places_for, table_to}
 use Rattle.least_wear.proofs.Tables.{places-most, table-long, table_empty}

@@ -1,12 +1,9 @@
 -- `least_wear::fill` meets its contract: the disks below i are in the table.
 -- Assumes nothing.
-use mathlib.Core.Path.{◌≡◌, ap, ◌∙◌}
-use Prim.Native.Nat.{ℕ, ◌+◌, ◌-◌, ◌≤◌}
-use native.Mathlib.Omega.{arith}
-use borrow.Author.Rules.{rules}
+use mathlib.Core.Path.{◌≡◌}
+use Prim.Native.Nat.{◌≤◌}
 use lib.ListN.{length}
 use Rattle.least_wear.specs.Forms.{weight_of, places_for, table_to}
-use Rattle.least_wear.proofs.Tables.{places-most, table-long, table_empty}
 use Rattle.least_wear.proofs.fill.Given as goal
 
 abbrev pub invariant-loop-i : goal.invariant-loop-i

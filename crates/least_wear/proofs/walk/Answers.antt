@@ -2,13 +2,12 @@
 -- Assumes nothing.
 use mathlib.Core.Path.{◌≡◌, sym, ap, ◌∙◌, subst}
 use mathlib.Core.Logic.{◌≢◌}
-use Prim.Native.Nat.{ℕ, ◌+◌, ◌-◌, ◌*◌, ◌%◌, ◌^◌, ◌≤◌, ◌<◌}
+use Prim.Native.Nat.{ℕ, ◌+◌, ◌-◌, ◌*◌, ◌%◌, ◌^◌, ◌<◌}
 use native.Mathlib.Omega.{arith}
 use borrow.Author.Rules.{rules}
 use lib.Bits.{bit_xor}
 use lib.ListN.{length}
 use lib.Pow.{pow_pos}
-use Rattle.gf2.specs.Sets.{◌⊕◌}
 use Rattle.gf2.proofs.Subsets.{lowest_lt}
 use Rattle.minimal_marks.proofs.Entries.{end_is, end_small}
 use Rattle.least_wear.specs.Forms.{rank_in, LeastOf}
@@ -18,9 +17,9 @@ use Rattle.least_wear.proofs.walk.Goals as goal
 pub loop-x-init : goal.loop-x-init
 loop-x-init c =
     let count : ℕ =
-        c.args.words.count in
+    c.args.words.count in
     let end : (1 * 2 ^ count) % 2 ^ 32 ≡ 2 ^ count =
-        end_is count c.requires.1 in
+    end_is count c.requires.1 in
     let a = c.args in (
       omega arith,
       omega (arith, end, pow_pos (count)),
@@ -31,19 +30,19 @@ loop-x-init c =
 pub lowest-requires : goal.lowest-requires
 lowest-requires c =
     let nonzero : c.loop-x.x ≢ 0 =
-        λ e. omega (arith, c.loop-x.invariant.0) in
+    λ e. omega (arith, c.loop-x.invariant.0) in
     nonzero
 
 pub bounds-steps-lowest : goal.bounds-steps-lowest
 bounds-steps-lowest c =
     let count : ℕ =
-        c.args.words.count in
+    c.args.words.count in
     let end : (1 * 2 ^ count) % 2 ^ 32 ≡ 2 ^ count =
-        end_is count c.requires.1 in
+    end_is count c.requires.1 in
     let few : c.loop-x.x < 2 ^ 16 =
-        omega (arith, c.loop-x-test.true, end, end_small (count) c.requires.1) in
+    omega (arith, c.loop-x-test.true, end, end_small (count) c.requires.1) in
     let nonzero : c.loop-x.x ≢ 0 =
-        λ e. omega (arith, c.loop-x.invariant.0) in
+    λ e. omega (arith, c.loop-x.invariant.0) in
     omega (arith, c.lowest.ensures.0, lowest_lt 16 c.loop-x.x (nonzero) (few))
 
 pub loop-x-preserved : goal.loop-x-preserved
@@ -65,11 +64,11 @@ loop-x-preserved c =
 pub returns : goal.returns
 returns c =
     let count : ℕ =
-        c.args.words.count in
+    c.args.words.count in
     let long : length c.args.words.rows ≡ 16 =
-        search rules in
+    search rules in
     let end : (1 * 2 ^ count) % 2 ^ 32 ≡ 2 ^ count =
-        end_is count c.requires.1 in
+    end_is count c.requires.1 in
     let a = c.args in
     let l = c.loop-x in
     let e : l.x ≡ 2 ^ count = omega (arith, c.loop-x-test.false, l.invariant.1, end) in

@@ -1,7 +1,6 @@
 -- `least_wear::weight` meets its contract, by the two cases of the test.
 -- Assumes nothing.
 use native.Mathlib.Omega.{arith}
-use borrow.Author.Rules.{rules}
 use Rattle.least_wear.proofs.Ranks.{weight_data, weight-parity}
 use Rattle.least_wear.proofs.weight.Goals as goal
 

@@ -1,9 +1,8 @@
 -- `likeness::balance` meets its contract: the columns gone through are in the balance.
 -- Assumes nothing.
 use mathlib.Core.Path.{◌≡◌, subst}
-use Prim.Native.Nat.{ℕ, ◌-◌, ◌≤◌}
+use Prim.Native.Nat.{ℕ}
 use native.Mathlib.Omega.{arith}
-use borrow.Author.Rules.{rules}
 use Rattle.likeness.proofs.Counted.{Balance, balance-none, balance-within, balance-more, one-most}
 use Rattle.likeness.proofs.balance.Goals as goal
 

@@ -1,7 +1,6 @@
 -- `partial_rebuilder::rebuild` meets its contract.
 -- Assumes nothing.
 use mathlib.Core.Path.{◌≡◌, sym, ap, ◌∙◌}
-use borrow.Author.Rules.{rules}
 use Rattle.partial_rebuilding.specs.Faults.{partial_report}
 use Rattle.flat.specs.Cards.{Card, card_of}
 use Rattle.card.specs.Reports.{report as check_report}
@@ -13,17 +12,17 @@ use Rattle.partial_rebuilder.proofs.rebuild.Goals as goal
 pub columns-requires : goal.columns-requires
 columns-requires c =
     let cardAt : Card =
-        let a = c.args in card_of a.edition a.card.now in
+    let a = c.args in card_of a.edition a.card.now in
     let known : GoodCard (cardAt) c.in-Good.k c.in-Good.m =
-        good _ _ _ (ap check_report (sym c.in-Good.is) ∙ c.check.ensures) in
+    good _ _ _ (ap check_report (sym c.in-Good.is) ∙ c.check.ensures) in
     (known).whole
 
 pub rebuild_columns-requires : goal.rebuild_columns-requires
 rebuild_columns-requires c =
     let cardAt : Card =
-        let a = c.args in card_of a.edition a.card.now in
+    let a = c.args in card_of a.edition a.card.now in
     let known : GoodCard (cardAt) c.in-Good.k c.in-Good.m =
-        good _ _ _ (ap check_report (sym c.in-Good.is) ∙ c.check.ensures) in
+    good _ _ _ (ap check_report (sym c.in-Good.is) ∙ c.check.ensures) in
     rw c.columns.ensures (known).columns
 
 pub returns-in-Bad : goal.returns-in-Bad
@@ -35,9 +34,9 @@ returns-in-Bad c =
 pub returns-in-Good : goal.returns-in-Good
 returns-in-Good c =
     let cardAt : Card =
-        let a = c.args in card_of a.edition a.card.now in
+    let a = c.args in card_of a.edition a.card.now in
     let known : GoodCard (cardAt) c.in-Good.k c.in-Good.m =
-        good _ _ _ (ap check_report (sym c.in-Good.is) ∙ c.check.ensures) in
+    good _ _ _ (ap check_report (sym c.in-Good.is) ∙ c.check.ensures) in
     let a = c.args in
     let g = known in
     let v = c.rebuild_columns in

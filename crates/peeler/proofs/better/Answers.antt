@@ -1,7 +1,6 @@
 -- `peeler::better` meets its contract.
 -- Assumes nothing.
 use mathlib.Core.Path.{sym, ◌∙◌}
-use borrow.Author.Rules.{rules}
 use Rattle.peeler.proofs.Passing.{not-one, one-first, one_lower}
 use Rattle.peeler.proofs.better.Goals as goal
 

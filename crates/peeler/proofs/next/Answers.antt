@@ -1,11 +1,9 @@
 -- `peeler::next` meets its contract: after j turns what the first j checks give is found.
 -- Assumes nothing.
 use mathlib.Core.Path.{◌≡◌, refl, sym, ap, ◌∙◌}
-use mathlib.Core.Logic.{⊎_elim}
-use Prim.Native.Nat.{ℕ, ◌-◌, ◌≤◌}
+use Prim.Native.Nat.{ℕ}
 use native.Mathlib.Omega.{arith}
-use lib.ListN.{length}
-use Rattle.gf2.specs.Sets.{◌∩◌, ◌∖◌}
+use Rattle.gf2.specs.Sets.{◌∖◌}
 use Rattle.peeler.specs.Forms.{Found, found}
 use Rattle.peeler.proofs.Passing.{pass_better, pass_older}
 use borrow.Author.Rules.{rules}
@@ -21,9 +19,12 @@ unfolding ◌∩◌
 loop-j-preserved c =
     let l = c.loop-j in
     let a = c.args in
-    elim c.if-better.branch [ then-better w ↦ let p = pass_better a.checks.rows a.left l.j l.disk l.invariant.3 (sym c.better.ensures ∙ w.if-better.true) in
-    (search rules, search rules, search rules, w.disk-is ∙ ap (λ (r : Found). r.set) p, w.word-is ∙ ap (λ (r : Found). r.word) p) | else-better w ↦ let p = pass_older a.checks.rows a.left l.j l.disk l.invariant.3 (sym c.better.ensures ∙ w.if-better.false) in
-    (search rules, search rules, search rules, w.disk-is ∙ l.invariant.3 ∙ ap (λ (r : Found). r.set) p, w.word-is ∙ l.invariant.4 ∙ ap (λ (r : Found). r.word) p) ]
+    elim c.if-better.branch [
+      | then-better w ↦ let p = pass_better a.checks.rows a.left l.j l.disk l.invariant.3 (sym c.better.ensures ∙ w.if-better.true) in
+          (search rules, search rules, search rules, w.disk-is ∙ ap (λ (r : Found). r.set) p, w.word-is ∙ ap (λ (r : Found). r.word) p)
+      | else-better w ↦ let p = pass_older a.checks.rows a.left l.j l.disk l.invariant.3 (sym c.better.ensures ∙ w.if-better.false) in
+          (search rules, search rules, search rules, w.disk-is ∙ l.invariant.3 ∙ ap (λ (r : Found). r.set) p, w.word-is ∙ l.invariant.4 ∙ ap (λ (r : Found). r.word) p)
+    ]
 
 pub returns : goal.returns
 returns c =

@@ -4,8 +4,6 @@ use mathlib.Core.Path.{refl, ap, ◌∙◌}
 use mathlib.Core.List.{[], ◌∷◌}
 use Prim.Native.Nat.{ℕ}
 use native.Mathlib.Omega.{arith}
-use borrow.Author.Rules.{rules}
-use borrow.Author.Tests.{not-true, not-false}
 use lib.Dec.{T}
 use Rattle.gf2.proofs.Subsets.{⊆-refl}
 use Rattle.flat.specs.Lists.{Bytes}
@@ -32,13 +30,13 @@ pub returns-then-not-restore : goal.returns-then-not-restore
 unfolding unless_refused
 returns-then-not-restore c =
     let C : Code =
-        let a = c.args in code_in a.k a.m a.columns.now in
+    let a = c.args in code_in a.k a.m a.columns.now in
     let safe : T (fatal (C) c.args.lost) → ⊥ =
-        let b = c.rows in
-        let a = c.args in
-        recoverable _ _ _ a.l _ a.stripe.now _ _ (taken _ _ _ _ b.ensures.0 b.ensures.1) c.undetermined.ensures c.if-undetermined-ne0.false in
+    let b = c.rows in
+    let a = c.args in
+    recoverable _ _ _ a.l _ a.stripe.now _ _ (taken _ _ _ _ b.ensures.0 b.ensures.1) c.undetermined.ensures c.if-undetermined-ne0.false in
     let stripe-bytes : Bytes c.args.stripe.now =
-        λ i. omega (arith, c.slice_known-1.given i) in
+    λ i. omega (arith, c.slice_known-1.given i) in
     let f = c.if-not-restore.true in
     record { result_value = inconsistent_report _ _ _ _ _ _ (safe) c.requires.le_l.0 (stripe-bytes) _ c.restore.ensures.value f; stripe_after = kept-none _ _ _ _ f c.restore.ensures.stripe_after }
 
@@ -46,12 +44,12 @@ pub returns : goal.returns
 unfolding unless_refused
 returns c =
     let C : Code =
-        let a = c.args in code_in a.k a.m a.columns.now in
+    let a = c.args in code_in a.k a.m a.columns.now in
     let safe : T (fatal (C) c.args.lost) → ⊥ =
-        let b = c.rows in
-        let a = c.args in
-        recoverable _ _ _ a.l _ a.stripe.now _ _ (taken _ _ _ _ b.ensures.0 b.ensures.1) c.undetermined.ensures c.if-undetermined-ne0.false in
+    let b = c.rows in
+    let a = c.args in
+    recoverable _ _ _ a.l _ a.stripe.now _ _ (taken _ _ _ _ b.ensures.0 b.ensures.1) c.undetermined.ensures c.if-undetermined-ne0.false in
     let stripe-bytes : Bytes c.args.stripe.now =
-        λ i. omega (arith, c.slice_known-1.given i) in
+    λ i. omega (arith, c.slice_known-1.given i) in
     let q = c.requires.le_l in
     let t = c.if-not-restore.false in record { result_value = ap (λ (n : ℕ). accepted (n ∷ [])) c.size-count.ensures ∙ restored-report _ _ _ _ _ _ (safe) q.0 (stripe-bytes) _ c.restore.ensures.value t; stripe_after = all-restored _ _ _ _ _ _ (safe) q.0 (stripe-bytes) _ c.restore.ensures.value _ q.3 t c.restore.ensures.stripe_after }

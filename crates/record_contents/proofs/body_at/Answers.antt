@@ -8,7 +8,6 @@ use Rattle.gf2.specs.Sets.{has, size}
 use Rattle.flat.specs.Lists.{count}
 use Rattle.flat.proofs.Counts.{count_le, size-set}
 use Rattle.record_format.specs.Records.{body_at}
-use borrow.Author.Rules.{rules}
 use Rattle.record_contents.proofs.body_at.Goals as goal
 use Rattle.record_contents.proofs.body_at.Goals.{After-size-before}
 

@@ -2,7 +2,6 @@
 use mathlib.Core.Path.{refl}
 use Rattle.flat.specs.Lists.{bytes}
 use Rattle.record_format.specs.Records.{entry}
-use borrow.Author.Rules.{rules}
 use Rattle.record_contents.proofs.entry.Goals as goal
 
 pub returns : goal.returns

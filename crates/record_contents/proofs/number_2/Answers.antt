@@ -1,7 +1,6 @@
 -- `record_contents::number_2` meets its contract. Assumes nothing.
 use Prim.Native.Nat.{◌+◌}
 use native.Mathlib.Omega.{arith}
-use borrow.Author.Rules.{rules}
 use Rattle.record_contents.proofs.Numbers.{two_bytes}
 use Rattle.record_contents.proofs.number_2.Goals as goal
 

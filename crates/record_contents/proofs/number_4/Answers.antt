@@ -1,6 +1,5 @@
 -- `record_contents::number_4` meets its contract. Assumes nothing.
 use native.Mathlib.Omega.{arith}
-use borrow.Author.Rules.{rules}
 use Rattle.record_contents.proofs.Numbers.{four_bytes}
 use Rattle.record_contents.proofs.number_4.Goals as goal
 

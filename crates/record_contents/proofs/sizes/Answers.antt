@@ -1,7 +1,6 @@
 -- `record_contents::sizes` meets its contract. Assumes nothing.
 use mathlib.Core.Path.{refl}
 use Rattle.flat.specs.Lists.{bytes}
-use borrow.Author.Rules.{rules}
 use Rattle.record_contents.proofs.sizes.Goals as goal
 
 pub returns : goal.returns

@@ -1,10 +1,7 @@
 -- `record_contents::stands` meets its contract: the bytes that the loop has passed are the wanted ones.
 -- Assumes nothing.
-use mathlib.Core.Path.{◌≡◌, refl}
-use Prim.Native.Nat.{◌-◌}
-use lib.ListN.{length}
-use borrow.Author.Rules.{rules}
-use Rattle.record_contents.proofs.Compared.{Standing, standing-none, standing-more, standing_other, standing-all}
+use mathlib.Core.Path.{refl}
+use Rattle.record_contents.proofs.Compared.{standing-none, standing-more, standing_other, standing-all}
 use Rattle.record_contents.proofs.stands.Goals as goal
 
 pub loop-t-init : goal.loop-t-init

@@ -2,7 +2,6 @@
 use mathlib.Core.Path.{sym}
 use Rattle.gf2.specs.Sets.{has}
 use Rattle.record_format.specs.Records.{entry, strip_entry}
-use borrow.Author.Rules.{rules}
 use Rattle.record_contents.proofs.strip_entry.Goals as goal
 
 pub returns-then-has : goal.returns-then-has

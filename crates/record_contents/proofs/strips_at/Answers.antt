@@ -2,7 +2,6 @@
 use native.Mathlib.Omega.{arith}
 use Rattle.flat.specs.Cards.{card_length}
 use Rattle.record_format.specs.Records.{entry_count, bodies_at, strips_at}
-use borrow.Author.Rules.{rules}
 use Rattle.record_contents.proofs.strips_at.Goals as goal
 
 pub returns : goal.returns

@@ -7,7 +7,6 @@ use lib.Dec.{eqb}
 use Rattle.record_writer.specs.declared.RecordWritten.{RecordWritten}
 use Rattle.record_writer.specs.Reports.{report}
 use Rattle.card.proofs.Laws.{fault_refuses}
-use borrow.Author.Rules.{rules}
 use Rattle.record_writer.proofs.accepts.Goals as goal
 
 abbrev zero : RecordWritten → Bool

@@ -18,29 +18,29 @@ use Rattle.render.proofs.listing.Goals as goal
 pub slice_bounds-listing-end : goal.slice_bounds-listing-end
 slice_bounds-listing-end c =
     let cardAt : List ℕ =
-        c.args.card.now in
+    c.args.card.now in
     let slice_at : List ℕ =
-        c.args.entries.now in
+    c.args.entries.now in
     let countAt : ℕ =
-        c.in-Count.count in
+    c.in-Count.count in
     let told : accepted (countAt ∷ []) ≡ erasures_report (edition_one (cardAt)) (length (slice_at)) =
-        ap listed_report (sym c.in-Count.is) ∙ c.list-listing.ensures.answer_value in
+    ap listed_report (sym c.in-Count.is) ∙ c.list-listing.ensures.answer_value in
     let roomy : countAt ≤ length c.list-listing.new.out =
-        room _ _ _ c.requires (slice_at) (countAt) (told) _ c.list-listing.ensures.out_after in
+    room _ _ _ c.requires (slice_at) (countAt) (told) _ c.list-listing.ensures.out_after in
     roomy
 
 pub slice_bounds-listing-end-in-Count : goal.slice_bounds-listing-end-in-Count
 slice_bounds-listing-end-in-Count c =
     let cardAt : List ℕ =
-        c.args.card.now in
+    c.args.card.now in
     let slice_at : List ℕ =
-        c.args.entries.now in
+    c.args.entries.now in
     let countAt : ℕ =
-        c.in-Count.count in
+    c.in-Count.count in
     let told : accepted (countAt ∷ []) ≡ erasures_report (edition_one (cardAt)) (length (slice_at)) =
-        ap listed_report (sym c.in-Count.is) ∙ c.list-listing.ensures.answer_value in
+    ap listed_report (sym c.in-Count.is) ∙ c.list-listing.ensures.answer_value in
     let roomy : countAt ≤ length c.list-listing.new.out =
-        room _ _ _ c.requires (slice_at) (countAt) (told) _ c.list-listing.ensures.out_after in
+    room _ _ _ c.requires (slice_at) (countAt) (told) _ c.list-listing.ensures.out_after in
     sym (length-take-le _ _ (roomy))
 
 pub overflow_add-vector : goal.overflow_add-vector
@@ -49,38 +49,38 @@ overflow_add-vector c = record { fits = omega (arith, counts _ _ _ c.requires) }
 pub slice_bounds-vector-end : goal.slice_bounds-vector-end
 slice_bounds-vector-end c =
     let m_at : ℕ =
-        c.args.m in
+    c.args.m in
     let places : m_at + 1 ≤ length c.list-listing.result.vector =
-        let len : length c.list-listing.result.vector ≡ 17 = search rules in
-        omega (arith, counts _ _ _ c.requires) in
+    let len : length c.list-listing.result.vector ≡ 17 = search rules in
+    omega (arith, counts _ _ _ c.requires) in
     places
 
 pub slice_bounds-listing-end-in-Count-2 : goal.slice_bounds-listing-end-in-Count-2
 slice_bounds-listing-end-in-Count-2 c =
     let m_at : ℕ =
-        c.args.m in
+    c.args.m in
     let places : m_at + 1 ≤ length c.list-listing.result.vector =
-        let len : length c.list-listing.result.vector ≡ 17 = search rules in
-        omega (arith, counts _ _ _ c.requires) in
+    let len : length c.list-listing.result.vector ≡ 17 = search rules in
+    omega (arith, counts _ _ _ c.requires) in
     sym (length-take-le _ _ (places))
 
 pub listing-requires : goal.listing-requires
 listing-requires c =
     let cardAt : List ℕ =
-        c.args.card.now in
+    c.args.card.now in
     let slice_at : List ℕ =
-        c.args.entries.now in
+    c.args.entries.now in
     let countAt : ℕ =
-        c.in-Count.count in
+    c.in-Count.count in
     let m_at : ℕ =
-        c.args.m in
+    c.args.m in
     let told : accepted (countAt ∷ []) ≡ erasures_report (edition_one (cardAt)) (length (slice_at)) =
-        ap listed_report (sym c.in-Count.is) ∙ c.list-listing.ensures.answer_value in
+    ap listed_report (sym c.in-Count.is) ∙ c.list-listing.ensures.answer_value in
     let roomy : countAt ≤ length c.list-listing.new.out =
-        room _ _ _ c.requires (slice_at) (countAt) (told) _ c.list-listing.ensures.out_after in
+    room _ _ _ c.requires (slice_at) (countAt) (told) _ c.list-listing.ensures.out_after in
     let places : m_at + 1 ≤ length c.list-listing.result.vector =
-        let len : length c.list-listing.result.vector ≡ 17 = search rules in
-        omega (arith, counts _ _ _ c.requires) in
+    let len : length c.list-listing.result.vector ≡ 17 = search rules in
+    omega (arith, counts _ _ _ c.requires) in
     let l = c.list-listing in
     let ok = c.requires in (
       omega (arith, length-take-le (countAt) l.new.out (roomy), few _ _ _ ok (slice_at) (countAt) (told)),
@@ -90,15 +90,15 @@ listing-requires c =
 pub returns-in-Count : goal.returns-in-Count
 returns-in-Count c =
     let cardAt : List ℕ =
-        c.args.card.now in
+    c.args.card.now in
     let slice_at : List ℕ =
-        c.args.entries.now in
+    c.args.entries.now in
     let countAt : ℕ =
-        c.in-Count.count in
+    c.in-Count.count in
     let m_at : ℕ =
-        c.args.m in
+    c.args.m in
     let told : accepted (countAt ∷ []) ≡ erasures_report (edition_one (cardAt)) (length (slice_at)) =
-        ap listed_report (sym c.in-Count.is) ∙ c.list-listing.ensures.answer_value in
+    ap listed_report (sym c.in-Count.is) ∙ c.list-listing.ensures.answer_value in
     let l = c.list-listing in
     let ok = c.requires in
     let es = ap (take (countAt)) l.ensures.out_after ∙ entries_are _ _ _ ok (slice_at) (countAt) (told) in
@@ -114,9 +114,9 @@ returns-in-Count c =
 pub returns-in-Short : goal.returns-in-Short
 returns-in-Short c =
     let cardAt : List ℕ =
-        c.args.card.now in
+    c.args.card.now in
     let slice_at : List ℕ =
-        c.args.entries.now in
+    c.args.entries.now in
     let l = c.list-listing in
     let e : printed (cardAt) (length (slice_at)) ≡ refused_text 10 = printed-short _ _ _ (ap listed_report (sym c.in-Short.is) ∙ l.ensures.answer_value) in
     record {
@@ -128,9 +128,9 @@ returns-in-Short c =
 pub returns-in-Card : goal.returns-in-Card
 returns-in-Card c =
     let cardAt : List ℕ =
-        c.args.card.now in
+    c.args.card.now in
     let slice_at : List ℕ =
-        c.args.entries.now in
+    c.args.entries.now in
     let n = c.number in
     let l = c.list-listing in
     let e : printed (cardAt) (length (slice_at)) ≡ refused_text n.result =

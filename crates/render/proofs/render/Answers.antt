@@ -1,7 +1,6 @@
 -- `render::render` meets its contract: the check says whether the card's fault or its list is written.
 -- Assumes nothing.
 use mathlib.Core.Path.{◌≡◌, sym, ap, ◌∙◌}
-use borrow.Author.Rules.{rules}
 use lib.ListN.{length}
 use Rattle.card.specs.Reports.{report as check_report}
 use Rattle.erasures.proofs.Answered.{bad_report, bad_slice}

@@ -1,7 +1,6 @@
 -- `slots::disk_in` meets its contract, by the two sides of the turn.
 -- Assumes nothing.
 use native.Mathlib.Omega.{arith}
-use borrow.Author.Rules.{rules}
 use Rattle.slots.proofs.Laws.{disk-early, disk_late}
 use Rattle.slots.proofs.disk_in.Goals as goal
 

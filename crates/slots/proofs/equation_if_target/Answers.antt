@@ -3,7 +3,6 @@
 use mathlib.Core.Path.{sym, ap, ◌∙◌}
 use Prim.Native.Nat.{◌-◌}
 use lib.ListN.{take}
-use borrow.Author.Rules.{rules}
 use Rattle.flat.specs.Repairs.{equation_in}
 use Rattle.turning.specs.Slots.{rotated}
 use Rattle.slots.proofs.equation_if_target.Goals as goal

@@ -1,17 +1,14 @@
 -- `slots::equations` meets its contract: after s turns the first s places are filled, and zeros stand behind them.
 -- Assumes nothing.
-use mathlib.Core.Path.{◌≡◌, refl, ◌∙◌}
+use mathlib.Core.Path.{◌≡◌}
 use Prim.Native.Nat.{◌-◌, ◌≤◌}
-use native.Mathlib.Omega.{arith}
 use lib.ListN.{length, take}
 use Rattle.gf2.specs.If.{if◌then◌else◌}
 use Rattle.gf2.specs.Sets.{has}
 use Rattle.flat.specs.Lists.{padded, tabulate}
-use Rattle.flat.proofs.Lists.{fill_none, fill_more, table_end}
 use Rattle.flat.specs.Repairs.{equation_in}
 use Rattle.turning.specs.Turning.{disk_in}
 use Rattle.turning.specs.Slots.{rotated}
-use borrow.Author.Rules.{rules}
 use Rattle.slots.proofs.equations.Given as goal
 
 abbrev pub invariant-loop-s : goal.invariant-loop-s

@@ -1,11 +1,9 @@
 -- `slots::rows_rotated` meets its contract. The loop has mapped the function over the first i rows.
 -- Assumes nothing.
-use mathlib.Core.Path.{◌≡◌, refl}
-use Prim.Native.Nat.{◌≤◌, ◌-◌}
-use lib.ListN.{length}
+use mathlib.Core.Path.{refl}
 use borrow.Author.Rules.{rules}
 use Rattle.turning.specs.Slots.{rotated}
-use Rattle.gf2.proofs.Loops.{mapped, mapped-step, mapped_end}
+use Rattle.gf2.proofs.Loops.{mapped-step, mapped_end}
 use Rattle.slots.proofs.rows_rotated.Goals as goal
 
 pub loop-i-init : goal.loop-i-init

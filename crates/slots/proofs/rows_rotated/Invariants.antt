@@ -1,11 +1,10 @@
 -- `slots::rows_rotated` meets its contract. The loop has mapped the function over the first i rows.
 -- Assumes nothing.
-use mathlib.Core.Path.{◌≡◌, refl}
-use Prim.Native.Nat.{◌≤◌, ◌-◌}
+use mathlib.Core.Path.{◌≡◌}
+use Prim.Native.Nat.{◌≤◌}
 use lib.ListN.{length}
-use borrow.Author.Rules.{rules}
 use Rattle.turning.specs.Slots.{rotated}
-use Rattle.gf2.proofs.Loops.{mapped, mapped-step, mapped_end}
+use Rattle.gf2.proofs.Loops.{mapped}
 use Rattle.slots.proofs.rows_rotated.Given as goal
 
 abbrev pub invariant-loop-i : goal.invariant-loop-i

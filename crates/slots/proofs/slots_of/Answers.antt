@@ -1,7 +1,6 @@
 -- `slots::slots_of` meets its contract: the set's number, rotated the other way.
 -- Assumes nothing.
 use mathlib.Core.Path.{sym, ◌∙◌}
-use borrow.Author.Rules.{rules}
 use Rattle.turning.proofs.Sets.{slots_rotated}
 use Rattle.slots.proofs.slots_of.Goals as goal
 

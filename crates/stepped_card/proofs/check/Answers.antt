@@ -3,8 +3,6 @@
 use mathlib.Core.Path.{◌≡◌, sym, ◌∙◌}
 use mathlib.Core.Bool.{true}
 use native.Mathlib.Omega.{arith}
-use borrow.Author.Rules.{rules}
-use borrow.Author.Tests.{not-true, not-false}
 use Rattle.flat.specs.Cards.{count_ok}
 use Rattle.flat.proofs.Cards.{count_in}
 use Rattle.stepped_codes.specs.Stepped.{distance_ok, within_bounds}
@@ -17,69 +15,69 @@ returns-then-not-count_ok c = report_data _ _ _ _ (sym c.count_ok.ensures ∙ c.
 pub returns-then-not-count_ok-2 : goal.returns-then-not-count_ok-2
 returns-then-not-count_ok-2 c =
     let k-good : count_ok c.args.k ≡ true =
-        sym c.count_ok.ensures ∙ c.if-not-count_ok.false in
+    sym c.count_ok.ensures ∙ c.if-not-count_ok.false in
     report-parity _ _ _ _ (k-good) (sym c.count_ok-2.ensures ∙ c.if-not-count_ok-2.true)
 
 pub returns-then-not-distance_ok : goal.returns-then-not-distance_ok
 returns-then-not-distance_ok c =
     let k-good : count_ok c.args.k ≡ true =
-        sym c.count_ok.ensures ∙ c.if-not-count_ok.false in
+    sym c.count_ok.ensures ∙ c.if-not-count_ok.false in
     let m-good : count_ok c.args.m ≡ true =
-        sym c.count_ok-2.ensures ∙ c.if-not-count_ok-2.false in
+    sym c.count_ok-2.ensures ∙ c.if-not-count_ok-2.false in
     report_distance _ _ _ _ (k-good) (m-good) (sym c.distance_ok.ensures ∙ c.if-not-distance_ok.true)
 
 pub within_bounds-requires : goal.within_bounds-requires
 within_bounds-requires c =
     let k-good : count_ok c.args.k ≡ true =
-        sym c.count_ok.ensures ∙ c.if-not-count_ok.false in
+    sym c.count_ok.ensures ∙ c.if-not-count_ok.false in
     let m-good : count_ok c.args.m ≡ true =
-        sym c.count_ok-2.ensures ∙ c.if-not-count_ok-2.false in
+    sym c.count_ok-2.ensures ∙ c.if-not-count_ok-2.false in
     ((count_in _ (m-good)).1, (count_in _ (k-good)).1)
 
 pub returns-then-not-within_bounds : goal.returns-then-not-within_bounds
 returns-then-not-within_bounds c =
     let k-good : count_ok c.args.k ≡ true =
-        sym c.count_ok.ensures ∙ c.if-not-count_ok.false in
+    sym c.count_ok.ensures ∙ c.if-not-count_ok.false in
     let m-good : count_ok c.args.m ≡ true =
-        sym c.count_ok-2.ensures ∙ c.if-not-count_ok-2.false in
+    sym c.count_ok-2.ensures ∙ c.if-not-count_ok-2.false in
     let d-good : distance_ok c.args.d ≡ true =
-        sym c.distance_ok.ensures ∙ c.if-not-distance_ok.false in
+    sym c.distance_ok.ensures ∙ c.if-not-distance_ok.false in
     report_bounds _ _ _ _ (k-good) (m-good) (d-good) (sym c.within_bounds.ensures ∙ c.if-not-within_bounds.true)
 
 pub overflow_mul-m : goal.overflow_mul-m
 overflow_mul-m c =
     let m-good : count_ok c.args.m ≡ true =
-        sym c.count_ok-2.ensures ∙ c.if-not-count_ok-2.false in
+    sym c.count_ok-2.ensures ∙ c.if-not-count_ok-2.false in
     let m = count_in _ (m-good) in omega arith
 
 pub overflow_add-m : goal.overflow_add-m
 overflow_add-m c =
     let m-good : count_ok c.args.m ≡ true =
-        sym c.count_ok-2.ensures ∙ c.if-not-count_ok-2.false in
+    sym c.count_ok-2.ensures ∙ c.if-not-count_ok-2.false in
     let m = count_in _ (m-good) in omega arith
 
 pub returns-then-n-m : goal.returns-then-n-m
 returns-then-n-m c =
     let k-good : count_ok c.args.k ≡ true =
-        sym c.count_ok.ensures ∙ c.if-not-count_ok.false in
+    sym c.count_ok.ensures ∙ c.if-not-count_ok.false in
     let m-good : count_ok c.args.m ≡ true =
-        sym c.count_ok-2.ensures ∙ c.if-not-count_ok-2.false in
+    sym c.count_ok-2.ensures ∙ c.if-not-count_ok-2.false in
     let d-good : distance_ok c.args.d ≡ true =
-        sym c.distance_ok.ensures ∙ c.if-not-distance_ok.false in
+    sym c.distance_ok.ensures ∙ c.if-not-distance_ok.false in
     let w-good : let a = c.args in
     within_bounds a.d a.m a.k ≡ true =
-        sym c.within_bounds.ensures ∙ c.if-not-within_bounds.false in
+    sym c.within_bounds.ensures ∙ c.if-not-within_bounds.false in
     report_buffer _ _ _ _ (k-good) (m-good) (d-good) (w-good) c.if-n-m.true
 
 pub returns : goal.returns
 returns c =
     let k-good : count_ok c.args.k ≡ true =
-        sym c.count_ok.ensures ∙ c.if-not-count_ok.false in
+    sym c.count_ok.ensures ∙ c.if-not-count_ok.false in
     let m-good : count_ok c.args.m ≡ true =
-        sym c.count_ok-2.ensures ∙ c.if-not-count_ok-2.false in
+    sym c.count_ok-2.ensures ∙ c.if-not-count_ok-2.false in
     let d-good : distance_ok c.args.d ≡ true =
-        sym c.distance_ok.ensures ∙ c.if-not-distance_ok.false in
+    sym c.distance_ok.ensures ∙ c.if-not-distance_ok.false in
     let w-good : let a = c.args in
     within_bounds a.d a.m a.k ≡ true =
-        sym c.within_bounds.ensures ∙ c.if-not-within_bounds.false in
+    sym c.within_bounds.ensures ∙ c.if-not-within_bounds.false in
     report-done _ _ _ _ (k-good) (m-good) (d-good) (w-good) c.if-n-m.false

@@ -1,16 +1,12 @@
 -- column meets its contract: after i turns the column has those of the first i data disks whose set has the disk.
 -- Assumes nothing.
 -- does data disk i's set have disk j?
-use mathlib.Core.Path.{◌≡◌, refl, sym, ap, ◌∙◌}
+use mathlib.Core.Path.{◌≡◌}
 use mathlib.Core.Bool.{Bool}
-use mathlib.Core.Logic.{⊎_elim}
 use mathlib.Core.List.{List}
-use Prim.Native.Nat.{ℕ, ◌-◌, ◌≤◌}
-use native.Mathlib.Omega.{arith}
-use borrow.Author.Rules.{rules}
+use Prim.Native.Nat.{ℕ, ◌≤◌}
 use lib.ListN.{get_or}
 use Rattle.gf2.specs.Sets.{has}
-use Rattle.gf2.proofs.Made.{set_fits, set_more, set_same}
 use Rattle.flat.specs.Lists.{set_of}
 use Rattle.stepped_card.proofs.column.Given as goal
 

@@ -1,9 +1,8 @@
 -- columns meets its contract. Assumes nothing.
 use mathlib.Core.Path.{◌≡◌, refl, ap, ◌∙◌}
-use Prim.Native.Nat.{ℕ, ◌-◌, ◌≤◌}
+use Prim.Native.Nat.{ℕ}
 use native.Mathlib.Omega.{arith}
-use borrow.Author.Rules.{rules}
-use lib.ListN.{length, length-set}
+use lib.ListN.{length-set}
 use Rattle.flat.specs.Lists.{tabulate, padded}
 use Rattle.flat.proofs.Lists.{fill_none, fill_more}
 use Rattle.stepped_codes.specs.Stepped.{stepped_column}

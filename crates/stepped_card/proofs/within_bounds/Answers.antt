@@ -1,6 +1,5 @@
 -- within_bounds meets its contract. Assumes nothing.
 use native.Mathlib.Omega.{arith}
-use borrow.Author.Rules.{rules}
 use lib.Pow.{pow_mono}
 use Rattle.gf2.proofs.Bits.{one_shifted_in}
 use Rattle.stepped_card.proofs.Laws.{three_low, three_high, four_low, four_high}

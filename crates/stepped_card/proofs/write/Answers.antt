@@ -1,12 +1,10 @@
 -- write meets its contract: the check's report, and the card in the buffer where it refuses nothing. Assumes nothing.
 -- what is known where the check found nothing to refuse
-use mathlib.Core.Path.{◌≡◌, sym, ap, ◌∙◌}
+use mathlib.Core.Path.{◌≡◌, ◌∙◌}
 use mathlib.Core.List.{[]}
-use borrow.Author.Rules.{rules}
 use lib.ListN.{length}
 use Rattle.flat.specs.Faults.{accepted}
 use Rattle.stepped_codes.specs.Faults.{stepped_report}
-use Rattle.stepped_card.specs.Reports.{report}
 use Rattle.stepped_card.proofs.Laws.{asked, length-columns, prefix_fits, buffer_done, buffer_kept}
 use Rattle.stepped_card.proofs.write.Goals as goal
 
@@ -14,7 +12,7 @@ pub columns-all-requires : goal.columns-all-requires
 columns-all-requires c =
     let done : let a = c.args in
     accepted [] ≡ stepped_report a.d a.m a.k (length a.out.now) =
-        c.in-Done.ensures in
+    c.in-Done.ensures in
     asked _ _ _ _ (done)
 
 pub slice_bounds-all-end : goal.slice_bounds-all-end
@@ -27,7 +25,7 @@ pub returns-in-Done : goal.returns-in-Done
 returns-in-Done c =
     let done : let a = c.args in
     accepted [] ≡ stepped_report a.d a.m a.k (length a.out.now) =
-        c.in-Done.ensures in
+    c.in-Done.ensures in
     record { result_value = c.check-answer.ensures; out_after = c.write.ensures.out_after ∙ buffer_done _ _ _ _ c.columns-all.ensures _ (done) }
 
 pub returns-in-DataCount : goal.returns-in-DataCount

@@ -1,22 +1,19 @@
 -- add_row meets its contract: place after place is filled. Assumes nothing.
-use mathlib.Core.Path.{◌≡◌, refl}
-use Prim.Native.Nat.{◌+◌, ◌-◌, ◌*◌, ◌≤◌}
+use Prim.Native.Nat.{◌-◌, ◌*◌}
 use native.Mathlib.Omega.{arith}
-use borrow.Author.Rules.{rules}
-use lib.ListN.{length}
 use Rattle.stepped_sets.proofs.Rows.{Filled, filled-long, filled-start, count_fits, filled_next, rows-filled, filled-rows}
 use Rattle.stepped_sets.proofs.add_row.Goals as goal
 
 pub bounds-counts-at : goal.bounds-counts-at
 bounds-counts-at c =
     let under : Filled c.args.counts.now (8 * c.args.n) =
-        filled-rows (c.args.n - 1) _ _ (omega arith) c.requires.2 in
+    filled-rows (c.args.n - 1) _ _ (omega arith) c.requires.2 in
     omega (arith, filled-long _ _ (under) (omega arith))
 
 pub loop-r-init : goal.loop-r-init
 loop-r-init c =
     let under : Filled c.args.counts.now (8 * c.args.n) =
-        filled-rows (c.args.n - 1) _ _ (omega arith) c.requires.2 in
+    filled-rows (c.args.n - 1) _ _ (omega arith) c.requires.2 in
     let n = c.args.n in
     let e = filled-start n (omega arith) (omega arith) _ (under) in
     (omega arith, omega arith, filled-long _ _ e (omega arith), e)

@@ -2,7 +2,7 @@
 use mathlib.Core.Path.{◌≡◌, refl, ◌∙◌}
 use Prim.Native.Nat.{ℕ, ◌+◌, ◌-◌, ◌≤◌}
 use native.Mathlib.Omega.{arith}
-use Rattle.stepped_codes.specs.Stepped.{step, choose}
+use Rattle.stepped_codes.specs.Stepped.{step}
 use Rattle.stepped_codes.proofs.Sizes.{distance_in}
 use Rattle.stepped_sets.proofs.Finding.{Finding, step_is, finding_first, finding_size, finding_next, finding_end}
 use Rattle.stepped_sets.proofs.parity_set.Goals as goal
@@ -25,11 +25,11 @@ overflow_add-size c =
     let a = c.args in
     let l = c.loop-here in
     size ≡ l.size + step a.d → Finding a.d a.m a.i size (l.left - l.here) =
-        λ size e. let l = c.loop-here in
-        finding_next c.args.d c.args.m c.args.i c.requires.2 l.size l.left l.invariant.1 l.here size l.invariant.0 e c.loop-here-test.true in
+    λ size e. let l = c.loop-here in
+    finding_next c.args.d c.args.m c.args.i c.requires.2 l.size l.left l.invariant.1 l.here size l.invariant.0 e c.loop-here-test.true in
     let next-size : let a = c.args in
     c.loop-here.size + step a.d ≤ a.m =
-        finding_size c.args.d c.args.m c.args.i c.requires.2 _ _ (next _ refl) in
+    finding_size c.args.d c.args.m c.args.i c.requires.2 _ _ (next _ refl) in
     omega (arith, next-size, step_is c.args.d c.requires.2)
 
 pub choose-here-requires-in-loop-here : goal.choose-here-requires-in-loop-here
@@ -38,11 +38,11 @@ choose-here-requires-in-loop-here c =
     let a = c.args in
     let l = c.loop-here in
     size ≡ l.size + step a.d → Finding a.d a.m a.i size (l.left - l.here) =
-        λ size e. let l = c.loop-here in
-        finding_next c.args.d c.args.m c.args.i c.requires.2 l.size l.left l.invariant.1 l.here size l.invariant.0 e c.loop-here-test.true in
+    λ size e. let l = c.loop-here in
+    finding_next c.args.d c.args.m c.args.i c.requires.2 l.size l.left l.invariant.1 l.here size l.invariant.0 e c.loop-here-test.true in
     let next-size : let a = c.args in
     c.loop-here.size + step a.d ≤ a.m =
-        finding_size c.args.d c.args.m c.args.i c.requires.2 _ _ (next _ refl) in
+    finding_size c.args.d c.args.m c.args.i c.requires.2 _ _ (next _ refl) in
     (c.requires.0, omega (arith, next-size, step_is c.args.d c.requires.2))
 
 pub loop-here-smaller : goal.loop-here-smaller
@@ -51,11 +51,11 @@ loop-here-smaller c =
     let a = c.args in
     let l = c.loop-here in
     size ≡ l.size + step a.d → Finding a.d a.m a.i size (l.left - l.here) =
-        λ size e. let l = c.loop-here in
-        finding_next c.args.d c.args.m c.args.i c.requires.2 l.size l.left l.invariant.1 l.here size l.invariant.0 e c.loop-here-test.true in
+    λ size e. let l = c.loop-here in
+    finding_next c.args.d c.args.m c.args.i c.requires.2 l.size l.left l.invariant.1 l.here size l.invariant.0 e c.loop-here-test.true in
     let next-size : let a = c.args in
     c.loop-here.size + step a.d ≤ a.m =
-        finding_size c.args.d c.args.m c.args.i c.requires.2 _ _ (next _ refl) in
+    finding_size c.args.d c.args.m c.args.i c.requires.2 _ _ (next _ refl) in
     omega (arith, next-size, step_is c.args.d c.requires.2, distance_in c.args.d c.requires.2)
 
 pub loop-here-preserved : goal.loop-here-preserved
@@ -64,8 +64,8 @@ loop-here-preserved c =
     let a = c.args in
     let l = c.loop-here in
     size ≡ l.size + step a.d → Finding a.d a.m a.i size (l.left - l.here) =
-        λ size e. let l = c.loop-here in
-        finding_next c.args.d c.args.m c.args.i c.requires.2 l.size l.left l.invariant.1 l.here size l.invariant.0 e c.loop-here-test.true in
+    λ size e. let l = c.loop-here in
+    finding_next c.args.d c.args.m c.args.i c.requires.2 l.size l.left l.invariant.1 l.here size l.invariant.0 e c.loop-here-test.true in
     (c.choose-here-in-loop-here.ensures, next _ (omega (arith, step_is c.args.d c.requires.2)))
 
 pub placed-requires : goal.placed-requires

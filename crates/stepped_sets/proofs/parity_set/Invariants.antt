@@ -1,10 +1,8 @@
 -- parity_set meets its contract. Assumes nothing.
-use mathlib.Core.Path.{◌≡◌, refl, ◌∙◌}
-use Prim.Native.Nat.{ℕ, ◌+◌, ◌-◌, ◌≤◌}
-use native.Mathlib.Omega.{arith}
-use Rattle.stepped_codes.specs.Stepped.{step, choose}
-use Rattle.stepped_codes.proofs.Sizes.{distance_in}
-use Rattle.stepped_sets.proofs.Finding.{Finding, step_is, finding_first, finding_size, finding_next, finding_end}
+use mathlib.Core.Path.{◌≡◌}
+use Prim.Native.Nat.{◌+◌, ◌-◌}
+use Rattle.stepped_codes.specs.Stepped.{choose}
+use Rattle.stepped_sets.proofs.Finding.{Finding}
 use Rattle.stepped_sets.proofs.parity_set.Given as goal
 
 abbrev pub invariant-loop-here : goal.invariant-loop-here

@@ -2,11 +2,10 @@
 use Prim.Native.Nat.{◌-◌}
 use native.Mathlib.Nat.{zero-add}
 use native.Mathlib.Omega.{arith}
-use borrow.Author.Rules.{rules}
 use Rattle.gf2.proofs.Bits.{one_shifted}
 use Rattle.stepped_codes.specs.Placing.{placed}
 use Rattle.stepped_sets.proofs.Rows.{has-few}
-use Rattle.stepped_sets.proofs.Going.{Going, going_some, going_low, going_high, going_fits, going_end}
+use Rattle.stepped_sets.proofs.Going.{going_some, going_low, going_high, going_fits, going_end}
 use Rattle.stepped_sets.proofs.placed.Goals as goal
 
 pub loop-size-init : goal.loop-size-init

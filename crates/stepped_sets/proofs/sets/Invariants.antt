@@ -1,11 +1,8 @@
 -- sets meets its contract. Assumes nothing.
-use mathlib.Core.Path.{◌≡◌, refl, ap, ◌∙◌}
-use Prim.Native.Nat.{ℕ, ◌-◌, ◌≤◌}
-use native.Mathlib.Omega.{arith}
-use borrow.Author.Rules.{rules}
-use lib.ListN.{length, length-set}
+use mathlib.Core.Path.{◌≡◌}
+use Prim.Native.Nat.{◌≤◌}
+use lib.ListN.{length}
 use Rattle.flat.specs.Lists.{tabulate, padded}
-use Rattle.flat.proofs.Lists.{fill_none, fill_more}
 use Rattle.stepped_codes.specs.Stepped.{parity_set}
 use Rattle.stepped_sets.proofs.sets.Given as goal
 

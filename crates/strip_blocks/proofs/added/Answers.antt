@@ -1,7 +1,6 @@
 -- `strip_blocks::added` meets its contract: a table is stored place by place.
 -- Assumes nothing.
 use mathlib.Core.Path.{refl}
-use Rattle.gf2.specs.Sets.{◌⊕◌}
 use Rattle.strip_blocks.proofs.Loops.{table_none, table_more, table-all}
 use borrow.Author.Rules.{rules}
 use Rattle.strip_blocks.proofs.added.Goals as goal

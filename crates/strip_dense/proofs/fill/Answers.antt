@@ -1,10 +1,10 @@
 -- `strip_dense::fill` meets its contract: the bytes below o of the strips of the targets are filled.
 -- Assumes nothing.
 use mathlib.Core.Path.{◌≡◌}
-use Prim.Native.Nat.{ℕ, ◌-◌, ◌≤◌}
+use Prim.Native.Nat.{ℕ}
 use native.Mathlib.Omega.{arith}
-use lib.ListN.{length, get_or, length-replicate}
-use Rattle.strip_dense.proofs.Patched.{Strips, strips-none, strips-more, strips-all}
+use lib.ListN.{get_or, length-replicate}
+use Rattle.strip_dense.proofs.Patched.{strips-none, strips-more, strips-all}
 use borrow.Author.Rules.{rules}
 use Rattle.strip_dense.proofs.fill.Goals as goal
 

@@ -1,11 +1,9 @@
 -- `strip_dense::fill` meets its contract: the bytes below o of the strips of the targets are filled.
 -- Assumes nothing.
 use mathlib.Core.Path.{◌≡◌}
-use Prim.Native.Nat.{ℕ, ◌-◌, ◌≤◌}
-use native.Mathlib.Omega.{arith}
-use lib.ListN.{length, get_or, length-replicate}
-use Rattle.strip_dense.proofs.Patched.{Strips, strips-none, strips-more, strips-all}
-use borrow.Author.Rules.{rules}
+use Prim.Native.Nat.{◌-◌, ◌≤◌}
+use lib.ListN.{length, get_or}
+use Rattle.strip_dense.proofs.Patched.{Strips}
 use Rattle.strip_dense.proofs.fill.Given as goal
 
 abbrev pub invariant-loop-o : goal.invariant-loop-o

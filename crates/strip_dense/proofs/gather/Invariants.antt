@@ -1,11 +1,7 @@
 -- `strip_dense::gather` meets its contract: the blocks of the disks so far are gathered.
 -- Assumes nothing.
-use mathlib.Core.Path.{◌≡◌, sym, subst}
-use Prim.Native.Nat.{◌+◌, ◌-◌, ◌*◌, ◌≤◌}
-use native.Mathlib.Omega.{arith}
-use Rattle.flat.proofs.Positions.{strip-within}
-use Rattle.strip_dense.proofs.Patched.{Gathered, gathered_none, gathered_more}
-use borrow.Author.Rules.{rules}
+use Prim.Native.Nat.{◌≤◌}
+use Rattle.strip_dense.proofs.Patched.{Gathered}
 use Rattle.strip_dense.proofs.gather.Given as goal
 
 abbrev pub invariant-loop-i : goal.invariant-loop-i

@@ -1,8 +1,8 @@
 -- `strip_lanes::added` meets its contract: the block is written piece by piece.
 -- Assumes nothing.
 use mathlib.Core.Path.{◌≡◌, ap, ◌∙◌}
-use Prim.Native.Nat.{ℕ, ◌-◌, ◌*◌, ◌≤◌}
-use Rattle.strip_blocks.proofs.Runs.{Run, run_none, run_whole}
+use Prim.Native.Nat.{ℕ, ◌*◌}
+use Rattle.strip_blocks.proofs.Runs.{run_none, run_whole}
 use Rattle.strip_lanes.proofs.Lanes.{added_byte, piece-more}
 use borrow.Author.Rules.{rules}
 use Rattle.strip_lanes.proofs.added.Goals as goal

@@ -1,10 +1,8 @@
 -- `strip_lanes::added` meets its contract: the block is written piece by piece.
 -- Assumes nothing.
-use mathlib.Core.Path.{◌≡◌, ap, ◌∙◌}
-use Prim.Native.Nat.{ℕ, ◌-◌, ◌*◌, ◌≤◌}
-use Rattle.strip_blocks.proofs.Runs.{Run, run_none, run_whole}
-use Rattle.strip_lanes.proofs.Lanes.{added_byte, piece-more}
-use borrow.Author.Rules.{rules}
+use Prim.Native.Nat.{◌*◌, ◌≤◌}
+use Rattle.strip_blocks.proofs.Runs.{Run}
+use Rattle.strip_lanes.proofs.Lanes.{added_byte}
 use Rattle.strip_lanes.proofs.added.Given as goal
 
 abbrev pub invariant-loop-q : goal.invariant-loop-q

@@ -1,8 +1,7 @@
 -- `strip_lanes::fill_long` meets its contract: the strip is written up to o, the data strips are as at entry.
 -- Assumes nothing.
 use mathlib.Core.Path.{◌≡◌}
-use Prim.Native.Nat.{◌-◌, ◌≤◌}
-use Rattle.strip_lanes.proofs.Lanes.{Lanes, lanes_made, StripTo, strip-none, strip-block, strip-all}
+use Rattle.strip_lanes.proofs.Lanes.{lanes_made, strip-none, strip-block, strip-all}
 use borrow.Author.Rules.{rules}
 use Rattle.strip_lanes.proofs.fill_long.Goals as goal
 

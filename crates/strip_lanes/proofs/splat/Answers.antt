@@ -1,8 +1,7 @@
 -- `strip_lanes::splat` meets its contract: the bit is stored lane by lane.
 -- Assumes nothing.
 use mathlib.Core.Path.{◌≡◌, refl}
-use Prim.Native.Nat.{◌-◌, ◌≤◌}
-use Rattle.strip_blocks.proofs.Runs.{Run, run_none, run_byte, run_all}
+use Rattle.strip_blocks.proofs.Runs.{run_none, run_byte, run_all}
 use borrow.Author.Rules.{rules}
 use Rattle.strip_lanes.proofs.splat.Goals as goal
 

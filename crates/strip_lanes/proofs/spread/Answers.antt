@@ -1,9 +1,9 @@
 -- `strip_lanes::spread` meets its contract: the lanes are written disk after disk.
 -- Assumes nothing.
 use mathlib.Core.Path.{◌≡◌, ap}
-use Prim.Native.Nat.{ℕ, ◌-◌, ◌*◌, ◌≤◌}
-use Rattle.strip_blocks.proofs.Runs.{Run, run_none, run_all}
-use Rattle.strip_lanes.proofs.Lanes.{lane_of, spread-more}
+use Prim.Native.Nat.{ℕ, ◌*◌}
+use Rattle.strip_blocks.proofs.Runs.{run_none, run_all}
+use Rattle.strip_lanes.proofs.Lanes.{spread-more}
 use borrow.Author.Rules.{rules}
 use Rattle.strip_lanes.proofs.spread.Goals as goal
 

@@ -1,10 +1,8 @@
 -- `strip_lanes::spread` meets its contract: the lanes are written disk after disk.
 -- Assumes nothing.
-use mathlib.Core.Path.{◌≡◌, ap}
-use Prim.Native.Nat.{ℕ, ◌-◌, ◌*◌, ◌≤◌}
-use Rattle.strip_blocks.proofs.Runs.{Run, run_none, run_all}
-use Rattle.strip_lanes.proofs.Lanes.{lane_of, spread-more}
-use borrow.Author.Rules.{rules}
+use Prim.Native.Nat.{◌*◌, ◌≤◌}
+use Rattle.strip_blocks.proofs.Runs.{Run}
+use Rattle.strip_lanes.proofs.Lanes.{lane_of}
 use Rattle.strip_lanes.proofs.spread.Given as goal
 
 abbrev pub invariant-loop-i : goal.invariant-loop-i

@@ -1,12 +1,12 @@
 -- `strip_lanes::sum` meets its contract: the strips go in one after the other, each times its lanes.
 -- Assumes nothing.
 use mathlib.Core.Path.{◌≡◌, ap, ◌∙◌}
-use Prim.Native.Nat.{◌+◌, ◌-◌, ◌*◌, ◌%◌, ◌≤◌}
+use Prim.Native.Nat.{◌+◌, ◌*◌, ◌%◌, ◌≤◌}
 use native.Mathlib.Omega.{arith}
 use lib.ListN.{length, get_or}
 use Rattle.flat.proofs.Lists.{length-tabulate}
 use Rattle.flat.proofs.Positions.{strip-within}
-use Rattle.strip_blocks.proofs.Summed.{Summed, summed_none, summed_more, summed_all}
+use Rattle.strip_blocks.proofs.Summed.{summed_none, summed_more, summed_all}
 use Rattle.strip_products.proofs.Products.{products-none}
 use Rattle.strip_lanes.proofs.Lanes.{lane_sum, lane-sum-more}
 use borrow.Author.Rules.{rules}
@@ -20,19 +20,19 @@ loop-i-init c =
 pub overflow_mul-i : goal.overflow_mul-i
 overflow_mul-i c =
     let inside : let a = c.args in c.loop-i.i * a.l + a.l ≤ a.k * a.l =
-        let a = c.args in strip-within c.loop-i.i a.k a.l (omega arith) in
+    let a = c.args in strip-within c.loop-i.i a.k a.l (omega arith) in
     omega (arith, inside)
 
 pub overflow_add-i : goal.overflow_add-i
 overflow_add-i c =
     let inside : let a = c.args in c.loop-i.i * a.l + a.l ≤ a.k * a.l =
-        let a = c.args in strip-within c.loop-i.i a.k a.l (omega arith) in
+    let a = c.args in strip-within c.loop-i.i a.k a.l (omega arith) in
     omega (arith, inside)
 
 pub added-requires : goal.added-requires
 added-requires c =
     let inside : let a = c.args in c.loop-i.i * a.l + a.l ≤ a.k * a.l =
-        let a = c.args in strip-within c.loop-i.i a.k a.l (omega arith) in
+    let a = c.args in strip-within c.loop-i.i a.k a.l (omega arith) in
     (ap length c.loop-i.invariant.1.so_far ∙ length-tabulate 128 _, omega (arith, inside), search rules, c.requires.3)
 
 pub loop-i-preserved : goal.loop-i-preserved

@@ -1,12 +1,10 @@
 -- `strip_rows::add_byte` meets its contract: 16 products are XORed in, place by place.
 -- Assumes nothing.
-use Prim.Native.Nat.{◌+◌, ◌-◌, ◌*◌, ◌≤◌}
+use Prim.Native.Nat.{◌+◌}
 use native.Mathlib.Omega.{arith}
-use lib.ListN.{get_or}
-use Rattle.gf2.specs.Sets.{◌⊕◌}
-use Rattle.strip_blocks.proofs.Runs.{Run, run_none, run_all}
+use Rattle.strip_blocks.proofs.Runs.{run_none, run_all}
 use Rattle.strip_products.proofs.Products.{product-same}
-use Rattle.strip_products.proofs.Joined.{joined, joined-more}
+use Rattle.strip_products.proofs.Joined.{joined-more}
 use borrow.Author.Rules.{rules}
 use Rattle.strip_rows.proofs.add_byte.Goals as goal
 

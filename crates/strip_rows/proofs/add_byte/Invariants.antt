@@ -1,13 +1,9 @@
 -- `strip_rows::add_byte` meets its contract: 16 products are XORed in, place by place.
 -- Assumes nothing.
-use Prim.Native.Nat.{◌+◌, ◌-◌, ◌*◌, ◌≤◌}
-use native.Mathlib.Omega.{arith}
+use Prim.Native.Nat.{◌+◌, ◌*◌, ◌≤◌}
 use lib.ListN.{get_or}
-use Rattle.gf2.specs.Sets.{◌⊕◌}
-use Rattle.strip_blocks.proofs.Runs.{Run, run_none, run_all}
-use Rattle.strip_products.proofs.Products.{product-same}
-use Rattle.strip_products.proofs.Joined.{joined, joined-more}
-use borrow.Author.Rules.{rules}
+use Rattle.strip_blocks.proofs.Runs.{Run}
+use Rattle.strip_products.proofs.Joined.{joined}
 use Rattle.strip_rows.proofs.add_byte.Given as goal
 
 abbrev pub invariant-loop-j : goal.invariant-loop-j

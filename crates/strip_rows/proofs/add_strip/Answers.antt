@@ -1,8 +1,8 @@
 -- `strip_rows::add_strip` meets its contract: the bytes so far have gone into their rows.
 -- Assumes nothing.
 use mathlib.Core.Path.{◌≡◌, ap}
-use Prim.Native.Nat.{ℕ, ◌-◌, ◌*◌, ◌≤◌}
-use Rattle.strip_blocks.proofs.Runs.{Run, run_none, run_all}
+use Prim.Native.Nat.{ℕ, ◌*◌}
+use Rattle.strip_blocks.proofs.Runs.{run_none, run_all}
 use Rattle.strip_rows.proofs.Rows.{added_place, row_more}
 use borrow.Author.Rules.{rules}
 use Rattle.strip_rows.proofs.add_strip.Goals as goal

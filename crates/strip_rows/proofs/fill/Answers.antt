@@ -1,10 +1,10 @@
 -- `strip_rows::fill` meets its contract: the strips of the parity disks so far are made.
 -- Assumes nothing.
-use Prim.Native.Nat.{◌+◌, ◌-◌, ◌*◌, ◌≤◌}
+use Prim.Native.Nat.{◌+◌, ◌*◌, ◌≤◌}
 use native.Mathlib.Nat.{mul-le-mul_right}
 use native.Mathlib.Omega.{arith}
 use Rattle.flat.proofs.Positions.{strip-within}
-use Rattle.strip_products.proofs.Made.{StripsTo, strips-none, strips-all}
+use Rattle.strip_products.proofs.Made.{strips-none, strips-all}
 use Rattle.strip_rows.proofs.Rows.{written-more}
 use borrow.Author.Rules.{rules}
 use Rattle.strip_rows.proofs.fill.Goals as goal
@@ -22,13 +22,13 @@ loop-j-init c = (search rules, strips-none _ _ _ _)
 pub overflow_mul-k : goal.overflow_mul-k
 overflow_mul-k c =
     let inside : let a = c.args in (a.k + c.loop-j.j) * a.l + a.l ≤ (a.k + a.m) * a.l =
-        let a = c.args in strip-within (a.k + c.loop-j.j) (a.k + a.m) a.l (omega arith) in
+    let a = c.args in strip-within (a.k + c.loop-j.j) (a.k + a.m) a.l (omega arith) in
     omega (arith, inside)
 
 pub put_strip-requires : goal.put_strip-requires
 put_strip-requires c =
     let inside : let a = c.args in (a.k + c.loop-j.j) * a.l + a.l ≤ (a.k + a.m) * a.l =
-        let a = c.args in strip-within (a.k + c.loop-j.j) (a.k + a.m) a.l (omega arith) in
+    let a = c.args in strip-within (a.k + c.loop-j.j) (a.k + a.m) a.l (omega arith) in
     let lp = c.loop-j in
     let p = c.requires in
     (p.0, omega (arith, p.3, inside, lp.invariant.1.long), search rules, omega (arith, p.2))
@@ -36,7 +36,7 @@ put_strip-requires c =
 pub loop-j-preserved : goal.loop-j-preserved
 loop-j-preserved c =
     let inside : let a = c.args in (a.k + c.loop-j.j) * a.l + a.l ≤ (a.k + a.m) * a.l =
-        let a = c.args in strip-within (a.k + c.loop-j.j) (a.k + a.m) a.l (omega arith) in
+    let a = c.args in strip-within (a.k + c.loop-j.j) (a.k + a.m) a.l (omega arith) in
     let lp = c.loop-j in
     let rows = c.sums-rows in
     let a = c.args in (

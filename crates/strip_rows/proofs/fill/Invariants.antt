@@ -1,12 +1,7 @@
 -- `strip_rows::fill` meets its contract: the strips of the parity disks so far are made.
 -- Assumes nothing.
-use Prim.Native.Nat.{◌+◌, ◌-◌, ◌*◌, ◌≤◌}
-use native.Mathlib.Nat.{mul-le-mul_right}
-use native.Mathlib.Omega.{arith}
-use Rattle.flat.proofs.Positions.{strip-within}
-use Rattle.strip_products.proofs.Made.{StripsTo, strips-none, strips-all}
-use Rattle.strip_rows.proofs.Rows.{written-more}
-use borrow.Author.Rules.{rules}
+use Prim.Native.Nat.{◌≤◌}
+use Rattle.strip_products.proofs.Made.{StripsTo}
 use Rattle.strip_rows.proofs.fill.Given as goal
 
 abbrev pub invariant-loop-j : goal.invariant-loop-j

@@ -1,9 +1,7 @@
 -- `strip_rows::put_strip` meets its contract: a copy is made byte by byte.
 -- Assumes nothing.
 use mathlib.Core.Path.{refl}
-use Prim.Native.Nat.{◌+◌, ◌-◌, ◌*◌, ◌≤◌}
-use lib.ListN.{get_or}
-use Rattle.strip_blocks.proofs.Runs.{Run, run_none, run_byte, run_all}
+use Rattle.strip_blocks.proofs.Runs.{run_none, run_byte, run_all}
 use borrow.Author.Rules.{rules}
 use Rattle.strip_rows.proofs.put_strip.Goals as goal
 

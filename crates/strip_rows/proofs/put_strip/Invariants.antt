@@ -1,10 +1,8 @@
 -- `strip_rows::put_strip` meets its contract: a copy is made byte by byte.
 -- Assumes nothing.
-use mathlib.Core.Path.{refl}
-use Prim.Native.Nat.{◌+◌, ◌-◌, ◌*◌, ◌≤◌}
+use Prim.Native.Nat.{◌+◌, ◌*◌, ◌≤◌}
 use lib.ListN.{get_or}
-use Rattle.strip_blocks.proofs.Runs.{Run, run_none, run_byte, run_all}
-use borrow.Author.Rules.{rules}
+use Rattle.strip_blocks.proofs.Runs.{Run}
 use Rattle.strip_rows.proofs.put_strip.Given as goal
 
 abbrev pub invariant-loop-t : goal.invariant-loop-t

@@ -1,7 +1,7 @@
 -- `strip_rows::sums` meets its contract: the parity bytes from the disks so far.
 -- Assumes nothing.
 use mathlib.Core.Path.{◌≡◌, subst}
-use Prim.Native.Nat.{ℕ, ◌+◌, ◌-◌, ◌*◌, ◌≤◌}
+use Prim.Native.Nat.{ℕ, ◌+◌, ◌*◌, ◌≤◌}
 use native.Mathlib.Omega.{arith}
 use Rattle.flat.proofs.Positions.{strip-within}
 use Rattle.strip_rows.proofs.Rows.{Summed, summed_none, summed_more}
@@ -14,13 +14,13 @@ loop-i-init c = (search rules, summed_none _ _ _)
 pub overflow_mul-i : goal.overflow_mul-i
 overflow_mul-i c =
     let inside : let a = c.args in c.loop-i.i * a.l + a.l ≤ a.k * a.l =
-        let a = c.args in strip-within c.loop-i.i a.k a.l (omega arith) in
+    let a = c.args in strip-within c.loop-i.i a.k a.l (omega arith) in
     omega (arith, inside)
 
 pub add_strip-requires : goal.add_strip-requires
 add_strip-requires c =
     let inside : let a = c.args in c.loop-i.i * a.l + a.l ≤ a.k * a.l =
-        let a = c.args in strip-within c.loop-i.i a.k a.l (omega arith) in
+    let a = c.args in strip-within c.loop-i.i a.k a.l (omega arith) in
     let p = c.requires in
     (c.loop-i.invariant.1.long, p.0, omega (arith, inside), p.3, omega (arith, p.1), p.4)
 

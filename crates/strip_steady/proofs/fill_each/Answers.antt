@@ -1,10 +1,10 @@
 -- `strip_steady::fill_each` meets its contract: the strips of the parity disks so far are made.
 -- Assumes nothing.
 use mathlib.Core.Path.{◌≡◌, sym, ◌∙◌}
-use Prim.Native.Nat.{◌+◌, ◌-◌, ◌≤◌}
+use Prim.Native.Nat.{◌+◌}
 use native.Mathlib.Omega.{arith}
 use Rattle.flat.proofs.Positions.{strip-within}
-use Rattle.strip_products.proofs.Made.{StripsTo, strips-none, strips-more, strips-all}
+use Rattle.strip_products.proofs.Made.{strips-none, strips-more, strips-all}
 use borrow.Author.Rules.{rules}
 use Rattle.strip_steady.proofs.fill_each.Goals as goal
 

@@ -14,13 +14,13 @@ use Rattle.strip_steady.proofs.fill_strip.Goals as goal
 pub fill_long-requires : goal.fill_long-requires
 fill_long-requires c =
     let inside : let a = c.args in (a.k + a.j) * a.l + a.l ≤ (a.k + a.m) * a.l =
-        let a = c.args in strip-within (a.k + a.j) (a.k + a.m) a.l (omega (arith, c.requires.7)) in
+    let a = c.args in strip-within (a.k + a.j) (a.k + a.m) a.l (omega (arith, c.requires.7)) in
     (search rules, search rules, omega (arith, inside), search rules, c.requires.6, search rules)
 
 pub fill_over-requires : goal.fill_over-requires
 fill_over-requires c =
     let inside : let a = c.args in (a.k + a.j) * a.l + a.l ≤ (a.k + a.m) * a.l =
-        let a = c.args in strip-within (a.k + a.j) (a.k + a.m) a.l (omega (arith, c.requires.7)) in
+    let a = c.args in strip-within (a.k + a.j) (a.k + a.m) a.l (omega (arith, c.requires.7)) in
     let a = c.args in
     let t = and_out (ltb 32 a.l) (leb 128 ((a.m + 1) * a.l)) (true-T (sym c.over_ok.ensures ∙ c.if-over_ok.true)) in
     let x : (a.k + a.m) * a.l ≡ a.k * a.l + a.m * a.l = add-mul a.k a.m a.l in
@@ -30,5 +30,5 @@ fill_over-requires c =
 pub fill_short-requires : goal.fill_short-requires
 fill_short-requires c =
     let inside : let a = c.args in (a.k + a.j) * a.l + a.l ≤ (a.k + a.m) * a.l =
-        let a = c.args in strip-within (a.k + a.j) (a.k + a.m) a.l (omega (arith, c.requires.7)) in
+    let a = c.args in strip-within (a.k + a.j) (a.k + a.m) a.l (omega (arith, c.requires.7)) in
     (search rules, search rules, search rules, omega (arith, inside), search rules, c.requires.6, search rules)

@@ -2,7 +2,6 @@
 -- Assumes nothing.
 use mathlib.Core.Path.{◌∙◌}
 use Rattle.strip_streams.proofs.Laws.{up-inside, up_apart, up-put}
-use borrow.Author.Rules.{rules}
 use Rattle.strip_streams.proofs.fill.Goals as goal
 
 pub fill_3-requires : goal.fill_3-requires

@@ -1,15 +1,8 @@
 -- `strip_streams::fill_3` meets its contract: the bytes so far are copied.
 -- Assumes nothing.
-use mathlib.Core.Path.{◌≡◌}
 use mathlib.Core.List.{[], ◌∷◌}
-use Prim.Native.Nat.{◌-◌, ◌≤◌}
-use native.Mathlib.Omega.{arith}
-use lib.ListN.{get_or}
-use Rattle.flat.specs.Lists.{tabulate}
-use Rattle.strip_blocks.specs.Totals.{total}
-use Rattle.strip_blocks.proofs.Loops.{copied_none}
-use Rattle.strip_streams.proofs.Laws.{Streamed, stream_more, stream_all, up_apart, listed}
-use borrow.Author.Rules.{rules}
+use Prim.Native.Nat.{◌≤◌}
+use Rattle.strip_streams.proofs.Laws.{Streamed}
 use Rattle.strip_streams.proofs.fill_3.Given as goal
 
 abbrev pub invariant-loop-t : goal.invariant-loop-t

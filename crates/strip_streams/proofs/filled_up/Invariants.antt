@@ -1,12 +1,8 @@
 -- `strip_streams::filled_up` meets its contract: pairs are put in, which cancel.
 -- Assumes nothing.
-use mathlib.Core.Path.{◌≡◌, sym, ap, ◌∙◌}
-use Prim.Native.Nat.{ℕ, ◌-◌, ◌%◌, ◌≤◌}
-use native.Mathlib.Omega.{arith}
-use lib.ListN.{get_or}
-use Rattle.strip_blocks.specs.Totals.{total}
-use Rattle.strip_streams.proofs.Laws.{FilledUp, up_none, up_more}
-use borrow.Author.Rules.{rules}
+use mathlib.Core.Path.{◌≡◌}
+use Prim.Native.Nat.{◌-◌, ◌%◌, ◌≤◌}
+use Rattle.strip_streams.proofs.Laws.{FilledUp}
 use Rattle.strip_streams.proofs.filled_up.Given as goal
 
 abbrev pub invariant-loop-j : goal.invariant-loop-j

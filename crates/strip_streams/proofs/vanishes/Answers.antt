@@ -2,7 +2,6 @@
 -- Assumes nothing.
 use mathlib.Core.Path.{◌∙◌}
 use Rattle.strip_streams.proofs.Laws.{up-inside, up-every}
-use borrow.Author.Rules.{rules}
 use Rattle.strip_streams.proofs.vanishes.Goals as goal
 
 pub vanishes_5-requires : goal.vanishes_5-requires

@@ -1,12 +1,9 @@
 -- `strip_streams::vanishes_5` meets its contract: the OR of the bytes so far is 0 where each of them is.
 -- Assumes nothing.
-use mathlib.Core.Path.{◌≡◌}
 use mathlib.Core.List.{[], ◌∷◌}
-use Prim.Native.Nat.{◌-◌, ◌≤◌}
-use native.Mathlib.Omega.{arith}
-use Rattle.strip_blocks.specs.Totals.{total, xor_at}
-use Rattle.strip_blocks.proofs.Loops.{Any, any_none, any-more, any-all}
-use borrow.Author.Rules.{rules}
+use Prim.Native.Nat.{◌≤◌}
+use Rattle.strip_blocks.specs.Totals.{xor_at}
+use Rattle.strip_blocks.proofs.Loops.{Any}
 use Rattle.strip_streams.proofs.vanishes_5.Given as goal
 
 abbrev pub invariant-loop-t : goal.invariant-loop-t

@@ -1,11 +1,11 @@
 -- `strip_updates::add` meets its contract: the run is written byte by byte, and what is read is as at entry.
 -- Assumes nothing.
 use mathlib.Core.Path.{ap}
-use Prim.Native.Nat.{ℕ, ◌+◌, ◌-◌, ◌≤◌}
+use Prim.Native.Nat.{ℕ}
 use native.Mathlib.Omega.{arith}
 use lib.ListN.{get_or}
 use Rattle.gf2.specs.Sets.{◌⊕◌}
-use Rattle.strip_blocks.proofs.Runs.{Run, run_none, run_byte, run_all}
+use Rattle.strip_blocks.proofs.Runs.{run_none, run_byte, run_all}
 use borrow.Author.Rules.{rules}
 use Rattle.strip_updates.proofs.add.Goals as goal
 

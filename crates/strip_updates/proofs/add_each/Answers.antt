@@ -1,9 +1,9 @@
 -- `strip_updates::add_each` meets its contract: the block is XORed into the first j strips of the list.
 -- Assumes nothing.
-use Prim.Native.Nat.{◌+◌, ◌-◌, ◌≤◌}
+use Prim.Native.Nat.{◌+◌, ◌≤◌}
 use native.Mathlib.Omega.{arith}
 use lib.ListN.{length, get_or}
-use Rattle.strip_updates.proofs.Adding.{Added, added_none, added_more, added-all}
+use Rattle.strip_updates.proofs.Adding.{added_none, added_more, added-all}
 use borrow.Author.Rules.{rules}
 use Rattle.strip_updates.proofs.add_each.Goals as goal
 
@@ -14,28 +14,28 @@ pub overflow_cast-at : goal.overflow_cast-at
 overflow_cast-at c =
     let room : let a = c.args in
     get_or a.at.now c.loop-j.j 0 + a.o + length a.change.now ≤ length a.s.now =
-        c.requires.by_index c.loop-j.j (search rules) in
+    c.requires.by_index c.loop-j.j (search rules) in
     omega (arith, room)
 
 pub overflow_add-at : goal.overflow_add-at
 overflow_add-at c =
     let room : let a = c.args in
     get_or a.at.now c.loop-j.j 0 + a.o + length a.change.now ≤ length a.s.now =
-        c.requires.by_index c.loop-j.j (search rules) in
+    c.requires.by_index c.loop-j.j (search rules) in
     record { fits = omega (arith, room) }
 
 pub add-requires : goal.add-requires
 add-requires c =
     let room : let a = c.args in
     get_or a.at.now c.loop-j.j 0 + a.o + length a.change.now ≤ length a.s.now =
-        c.requires.by_index c.loop-j.j (search rules) in
+    c.requires.by_index c.loop-j.j (search rules) in
     omega (arith, room, c.loop-j.invariant.1.long)
 
 pub loop-j-preserved : goal.loop-j-preserved
 loop-j-preserved c =
     let room : let a = c.args in
     get_or a.at.now c.loop-j.j 0 + a.o + length a.change.now ≤ length a.s.now =
-        c.requires.by_index c.loop-j.j (search rules) in
+    c.requires.by_index c.loop-j.j (search rules) in
     let lp = c.loop-j in
     (search rules, added_more _ _ _ _ lp.j _ _ (room) lp.invariant.1 c.add.ensures)
 

@@ -1,11 +1,9 @@
 -- `strip_updates::take_change` meets its contract: a table is stored place by place.
 -- Assumes nothing.
-use mathlib.Core.Path.{refl}
-use Prim.Native.Nat.{◌+◌, ◌-◌, ◌≤◌}
+use Prim.Native.Nat.{◌+◌, ◌≤◌}
 use lib.ListN.{length, get_or}
 use Rattle.gf2.specs.Sets.{◌⊕◌}
-use Rattle.strip_blocks.proofs.Loops.{Table, table_none, table_more, table-all}
-use borrow.Author.Rules.{rules}
+use Rattle.strip_blocks.proofs.Loops.{Table}
 use Rattle.strip_updates.proofs.take_change.Given as goal
 
 abbrev pub invariant-loop-t : goal.invariant-loop-t

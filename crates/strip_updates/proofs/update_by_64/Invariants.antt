@@ -1,11 +1,9 @@
 -- `strip_updates::update_by_64` meets its contract: after the last block, those below o are rewritten too.
 -- Assumes nothing.
-use mathlib.Core.Path.{◌≡◌, ◌∙◌}
+use mathlib.Core.Path.{◌≡◌}
 use Prim.Native.Nat.{◌-◌, ◌≤◌}
 use lib.ListN.{length}
 use Rattle.strip_updates.specs.Changes.{from, changed}
-use Rattle.strip_updates.proofs.Changing.{changed-long, below_none, below_more, below_all}
-use borrow.Author.Rules.{rules}
 use Rattle.strip_updates.proofs.update_by_64.Given as goal
 
 abbrev pub invariant-loop-o : goal.invariant-loop-o

@@ -1,15 +1,9 @@
 -- `strip_vanishing::all_narrow_vanish` meets its contract: in the copy, whose strips are the same, the rows before j vanish.
 -- Assumes nothing.
-use mathlib.Core.Path.{◌≡◌, sym, ap, ◌∙◌}
-use Prim.Native.Nat.{◌+◌, ◌-◌, ◌*◌, ◌≤◌}
-use native.Mathlib.Omega.{arith}
-use borrow.Author.Tests.{not-true, not-false}
+use mathlib.Core.Path.{◌≡◌}
+use Prim.Native.Nat.{◌≤◌}
 use lib.ListN.{length, take}
-use lib.Seq.{get_or-take, length-take-le}
-use Rattle.flat.specs.Repairs.{vanishes}
-use Rattle.strip_blocks.proofs.Aside.{aside_room, aside_byte}
-use Rattle.strip_vanishing.proofs.Vanishing.{Tested, tested-none, tested-more, tested-not, tested-all, all_vanish_same}
-use borrow.Author.Rules.{rules}
+use Rattle.strip_vanishing.proofs.Vanishing.{Tested}
 use Rattle.strip_vanishing.proofs.all_narrow_vanish.Given as goal
 
 abbrev pub invariant-loop-j : goal.invariant-loop-j

@@ -1,8 +1,7 @@
 -- `strip_vanishing::vanishes_bytes` meets its contract: the bytes below t are 0.
 -- Assumes nothing.
-use Prim.Native.Nat.{◌-◌, ◌≤◌}
-use Rattle.strip_vanishing.proofs.Vanishing.{Vanished, vanished_none, vanished_byte, vanished_other, vanished_all}
-use borrow.Author.Rules.{rules}
+use Prim.Native.Nat.{◌≤◌}
+use Rattle.strip_vanishing.proofs.Vanishing.{Vanished}
 use Rattle.strip_vanishing.proofs.vanishes_bytes.Given as goal
 
 abbrev pub invariant-loop-t : goal.invariant-loop-t

@@ -4,7 +4,6 @@ use mathlib.Core.Path.{◌∙◌}
 use native.Mathlib.Omega.{arith}
 use Rattle.strip_blocks.proofs.Placed.{place_inside}
 use Rattle.strip_vanishing.proofs.Vanishing.{streamed_vanishes}
-use borrow.Author.Rules.{rules}
 use Rattle.strip_vanishing.proofs.vanishes_few.Goals as goal
 
 pub vanishes-requires : goal.vanishes-requires

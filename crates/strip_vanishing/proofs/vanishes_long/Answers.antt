@@ -1,10 +1,8 @@
 -- `strip_vanishing::vanishes_long` meets its contract: the bytes below o are 0.
 -- Assumes nothing.
 use mathlib.Core.Path.{sym, ◌∙◌}
-use borrow.Author.Tests.{not-true, not-false}
-use Prim.Native.Nat.{◌-◌, ◌≤◌}
 use native.Mathlib.Omega.{arith}
-use Rattle.strip_vanishing.proofs.Vanishing.{Vanished, vanished_none, vanished_more, vanished_not, vanished_last, vanished_all}
+use Rattle.strip_vanishing.proofs.Vanishing.{vanished_none, vanished_more, vanished_not, vanished_last, vanished_all}
 use borrow.Author.Rules.{rules}
 use Rattle.strip_vanishing.proofs.vanishes_long.Goals as goal
 

@@ -1,9 +1,8 @@
 -- `strips::fill_bytes` meets its contract: the strip is written up to t, the other strips are as at entry.
 -- Assumes nothing.
-use Prim.Native.Nat.{◌-◌, ◌≤◌}
 use native.Mathlib.Omega.{arith}
 use Rattle.strip_blocks.proofs.Runs.{run_none}
-use Rattle.strips.proofs.OneStrip.{StripTo, strip-byte, strip-all}
+use Rattle.strips.proofs.OneStrip.{strip-byte, strip-all}
 use borrow.Author.Rules.{rules}
 use Rattle.strips.proofs.fill_bytes.Goals as goal
 

@@ -1,8 +1,7 @@
 -- `strips::fill_each` meets its contract: the strips of the targets below d are filled.
 -- Assumes nothing.
 use mathlib.Core.Path.{sym, ◌∙◌, subst}
-use mathlib.Core.Logic.{⊎_elim}
-use Prim.Native.Nat.{ℕ, ◌+◌, ◌-◌, ◌*◌, ◌≤◌}
+use Prim.Native.Nat.{ℕ, ◌+◌, ◌*◌, ◌≤◌}
 use native.Mathlib.Omega.{arith}
 use lib.Dec.{T}
 use lib.ListN.{get_or}
@@ -20,7 +19,7 @@ loop-d-init c = let a = c.args in filled_none a.n a.l (λ i. get_or a.sets i 0) 
 pub fill_strip-requires : goal.fill_strip-requires
 fill_strip-requires c =
     let inside : c.loop-d.d * c.args.l + c.args.l ≤ c.args.n * c.args.l =
-        strip-within c.loop-d.d c.args.n c.args.l (omega arith) in
+    strip-within c.loop-d.d c.args.n c.args.l (omega arith) in
     let lp = c.loop-d in
     let t = true-T (sym c.has.ensures ∙ c.if-has.true) in record { le_l = omega (arith, inside, lp.invariant.long); by_index = λ i h u e. c.requires.by_index lp.d i t (omega arith) u (subst (λ (x : ℕ). T (has c.args.targets x)) (sym e) t) }
 
@@ -29,11 +28,14 @@ loop-d-preserved c =
     let lp = c.loop-d in
     let a = c.args in
     let E : ℕ → ℕ = λ i. get_or a.sets i 0 in
-    elim c.if-has.branch [ then-has w ↦ let t = true-T (sym c.has.ensures ∙ w.if-has.true) in
-    subst (FilledTo a.n a.l E a.targets a.s.now (lp.d + 1)) (sym w.s-is)
-    (filled-strip a.n a.l E a.targets a.s.now lp.d lp.s _ (search rules) lp.invariant t (search rules)
-    (λ i h u. c.requires.by_index lp.d i t h u) w.fill_strip.ensures) | else-has w ↦ subst (FilledTo a.n a.l E a.targets a.s.now (lp.d + 1)) (sym w.s-is)
-    (filled_skip a.n a.l E a.targets a.s.now lp.d lp.s lp.invariant (false-T (sym c.has.ensures ∙ w.if-has.false))) ]
+    elim c.if-has.branch [
+      | then-has w ↦ let t = true-T (sym c.has.ensures ∙ w.if-has.true) in
+          subst (FilledTo a.n a.l E a.targets a.s.now (lp.d + 1)) (sym w.s-is)
+          (filled-strip a.n a.l E a.targets a.s.now lp.d lp.s _ (search rules) lp.invariant t (search rules)
+          (λ i h u. c.requires.by_index lp.d i t h u) w.fill_strip.ensures)
+      | else-has w ↦ subst (FilledTo a.n a.l E a.targets a.s.now (lp.d + 1)) (sym w.s-is)
+          (filled_skip a.n a.l E a.targets a.s.now lp.d lp.s lp.invariant (false-T (sym c.has.ensures ∙ w.if-has.false)))
+    ]
 
 pub returns : goal.returns
 returns c =

@@ -1,8 +1,7 @@
 -- `strips::fill_short` meets its contract: the strip is written up to o, the other strips are as at entry.
 -- Assumes nothing.
-use Prim.Native.Nat.{◌-◌, ◌≤◌}
 use Rattle.strip_blocks.proofs.Runs.{run_none}
-use Rattle.strips.proofs.OneStrip.{StripTo, strip-more, strip-all}
+use Rattle.strips.proofs.OneStrip.{strip-more, strip-all}
 use borrow.Author.Rules.{rules}
 use Rattle.strips.proofs.fill_short.Goals as goal
 
@@ -10,12 +9,11 @@ pub loop-o-init : goal.loop-o-init
 loop-o-init c = (search rules, run_none _ _ _)
 
 pub loop-o-preserved : goal.loop-o-preserved
-loop-o-preserved c =
-    (
-      search rules,
-      strip-more _ _ _ _ _ c.requires.by_index 16 _ _ _ _ _ c.loop-o.invariant.1 (search rules) (search rules) (search rules) (search rules)
-          c.sum_16-block.ensures c.put_16.ensures,
-    )
+loop-o-preserved c = (
+  search rules,
+  strip-more _ _ _ _ _ c.requires.by_index 16 _ _ _ _ _ c.loop-o.invariant.1 (search rules) (search rules) (search rules) (search rules)
+      c.sum_16-block.ensures c.put_16.ensures,
+)
 
 pub returns-then-o-l : goal.returns-then-o-l
 returns-then-o-l c =

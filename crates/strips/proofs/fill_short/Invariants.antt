@@ -1,9 +1,7 @@
 -- `strips::fill_short` meets its contract: the strip is written up to o, the other strips are as at entry.
 -- Assumes nothing.
 use Prim.Native.Nat.{◌-◌, ◌≤◌}
-use Rattle.strip_blocks.proofs.Runs.{run_none}
-use Rattle.strips.proofs.OneStrip.{StripTo, strip-more, strip-all}
-use borrow.Author.Rules.{rules}
+use Rattle.strips.proofs.OneStrip.{StripTo}
 use Rattle.strips.proofs.fill_short.Given as goal
 
 abbrev pub invariant-loop-o : goal.invariant-loop-o

@@ -3,7 +3,6 @@
 use mathlib.Core.Path.{ap, ◌∙◌}
 use mathlib.Core.List.{List}
 use Prim.Native.Nat.{ℕ, ◌+◌, ◌*◌}
-use borrow.Author.Rules.{rules}
 use Rattle.flat.specs.Cards.{code_in, disks}
 use Rattle.peeling.specs.Peeling.{peeled}
 use Rattle.tray.proofs.Placing.{part_is, peeled-placed}

@@ -1,12 +1,10 @@
 -- `tray::peel_each` meets its contract: after i turns the first i stripes are done.
 -- Assumes nothing.
-use mathlib.Core.Path.{◌≡◌, refl}
-use Prim.Native.Nat.{◌+◌, ◌-◌, ◌*◌, ◌≤◌}
-use native.Mathlib.Omega.{arith}
-use borrow.Author.Rules.{rules}
+use mathlib.Core.Path.{◌≡◌}
+use Prim.Native.Nat.{◌≤◌}
 use lib.ListN.{length}
-use Rattle.flat.specs.Cards.{Code, code_in, disks}
-use Rattle.tray.proofs.Turning.{Turned, turn-start, turn-place, turn-steps, turn_more, turn_end}
+use Rattle.flat.specs.Cards.{code_in}
+use Rattle.tray.proofs.Turning.{Turned}
 use Rattle.tray.proofs.peel_each.Given as goal
 
 abbrev pub invariant-loop-i : goal.invariant-loop-i

@@ -1,7 +1,6 @@
 -- `tray::repair` meets its contract.
 -- Assumes nothing.
 use mathlib.Core.Path.{◌≡◌, sym, ap, ◌∙◌}
-use borrow.Author.Rules.{rules}
 use Rattle.flat.specs.Cards.{Card, card_of}
 use Rattle.card.specs.Reports.{report as check_report}
 use Rattle.card.proofs.Callers.{GoodCard, good}
@@ -13,17 +12,17 @@ use Rattle.tray.proofs.repair.Goals as goal
 pub columns-requires : goal.columns-requires
 columns-requires c =
     let cardAt : Card =
-        let a = c.args in card_of a.edition a.card.now in
+    let a = c.args in card_of a.edition a.card.now in
     let known : GoodCard (cardAt) c.in-Good.k c.in-Good.m =
-        good _ _ _ (ap check_report (sym c.in-Good.is) ∙ c.check.ensures) in
+    good _ _ _ (ap check_report (sym c.in-Good.is) ∙ c.check.ensures) in
     (known).whole
 
 pub repair_columns-requires : goal.repair_columns-requires
 repair_columns-requires c =
     let cardAt : Card =
-        let a = c.args in card_of a.edition a.card.now in
+    let a = c.args in card_of a.edition a.card.now in
     let known : GoodCard (cardAt) c.in-Good.k c.in-Good.m =
-        good _ _ _ (ap check_report (sym c.in-Good.is) ∙ c.check.ensures) in
+    good _ _ _ (ap check_report (sym c.in-Good.is) ∙ c.check.ensures) in
     rw c.columns.ensures (known).columns
 
 pub returns-in-Bad : goal.returns-in-Bad
@@ -34,9 +33,9 @@ returns-in-Bad c =
 pub returns-in-Good : goal.returns-in-Good
 returns-in-Good c =
     let cardAt : Card =
-        let a = c.args in card_of a.edition a.card.now in
+    let a = c.args in card_of a.edition a.card.now in
     let known : GoodCard (cardAt) c.in-Good.k c.in-Good.m =
-        good _ _ _ (ap check_report (sym c.in-Good.is) ∙ c.check.ensures) in
+    good _ _ _ (ap check_report (sym c.in-Good.is) ∙ c.check.ensures) in
     let a = c.args in
     let g = known in
     let v = c.repair_columns in

@@ -1,14 +1,9 @@
 -- `tray::sets_ok` meets its contract: no set that the loop has passed has a disk at n or above.
 -- Assumes nothing.
-use mathlib.Core.Path.{◌≡◌, refl, sym, ◌∙◌}
-use Prim.Native.Nat.{ℕ, ◌-◌, ◌^◌, ◌≤◌, ◌<◌}
-use native.Mathlib.Nat.{not-suc-le-zero}
-use native.Mathlib.Omega.{arith}
-use borrow.Author.Rules.{rules}
-use borrow.Author.Tests.{not-true, not-false}
+use mathlib.Core.Path.{◌≡◌}
+use Prim.Native.Nat.{ℕ, ◌^◌, ◌≤◌, ◌<◌}
 use lib.Dec.{T, ltb}
 use lib.ListN.{length, get_or}
-use Rattle.tray.proofs.Answered.{one_outside, one_inside, all-inside}
 use Rattle.tray.proofs.sets_ok.Given as goal
 
 abbrev pub invariant-loop-i : goal.invariant-loop-i

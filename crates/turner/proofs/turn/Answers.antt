@@ -4,7 +4,6 @@ use mathlib.Core.Path.{◌≡◌, sym, ap, ◌∙◌}
 use Prim.Native.Nat.{◌+◌, ◌≤◌}
 use native.Mathlib.Omega.{arith}
 use lib.ListN.{length}
-use borrow.Author.Rules.{rules}
 use Rattle.flat.specs.Cards.{Card, card_of}
 use Rattle.card.specs.Reports.{report as check_report}
 use Rattle.card.proofs.Callers.{GoodCard, good}
@@ -16,25 +15,25 @@ use Rattle.turner.proofs.turn.Goals as goal
 pub overflow_add-n : goal.overflow_add-n
 overflow_add-n c =
     let cardAt : Card =
-        let a = c.args in card_of a.edition a.card.now in
+    let a = c.args in card_of a.edition a.card.now in
     let known : GoodCard (cardAt) c.in-Good.k c.in-Good.m =
-        good _ _ _ (ap check_report (sym c.in-Good.is) ∙ c.check.ensures) in
+    good _ _ _ (ap check_report (sym c.in-Good.is) ∙ c.check.ensures) in
     let few : let k = c.in-Good.k in
     let m = c.in-Good.m in
     (1 ≤ k + m) × (k + m ≤ 32) =
-        let p = (known).columns in (omega (arith, p), omega (arith, p)) in
+    let p = (known).columns in (omega (arith, p), omega (arith, p)) in
     record { fits = omega (arith, (few).1) }
 
 pub turn-requires : goal.turn-requires
 turn-requires c =
     let cardAt : Card =
-        let a = c.args in card_of a.edition a.card.now in
+    let a = c.args in card_of a.edition a.card.now in
     let known : GoodCard (cardAt) c.in-Good.k c.in-Good.m =
-        good _ _ _ (ap check_report (sym c.in-Good.is) ∙ c.check.ensures) in
+    good _ _ _ (ap check_report (sym c.in-Good.is) ∙ c.check.ensures) in
     let few : let k = c.in-Good.k in
     let m = c.in-Good.m in
     (1 ≤ k + m) × (k + m ≤ 32) =
-        let p = (known).columns in (omega (arith, p), omega (arith, p)) in
+    let p = (known).columns in (omega (arith, p), omega (arith, p)) in
     few
 
 pub overflow_sub-n : goal.overflow_sub-n
@@ -43,13 +42,13 @@ overflow_sub-n c = omega (arith, c.turn.ensures.1)
 pub turn_to-requires : goal.turn_to-requires
 turn_to-requires c =
     let cardAt : Card =
-        let a = c.args in card_of a.edition a.card.now in
+    let a = c.args in card_of a.edition a.card.now in
     let known : GoodCard (cardAt) c.in-Good.k c.in-Good.m =
-        good _ _ _ (ap check_report (sym c.in-Good.is) ∙ c.check.ensures) in
+    good _ _ _ (ap check_report (sym c.in-Good.is) ∙ c.check.ensures) in
     let few : let k = c.in-Good.k in
     let m = c.in-Good.m in
     (1 ≤ k + m) × (k + m ≤ 32) =
-        let p = (known).columns in (omega (arith, p), omega (arith, p)) in
+    let p = (known).columns in (omega (arith, p), omega (arith, p)) in
     ((few).1, omega (arith, c.turn.ensures.1))
 
 pub returns-in-Bad : goal.returns-in-Bad
@@ -63,13 +62,13 @@ returns-in-Bad c =
 pub returns-in-Good : goal.returns-in-Good
 returns-in-Good c =
     let cardAt : Card =
-        let a = c.args in card_of a.edition a.card.now in
+    let a = c.args in card_of a.edition a.card.now in
     let known : GoodCard (cardAt) c.in-Good.k c.in-Good.m =
-        good _ _ _ (ap check_report (sym c.in-Good.is) ∙ c.check.ensures) in
+    good _ _ _ (ap check_report (sym c.in-Good.is) ∙ c.check.ensures) in
     let few : let k = c.in-Good.k in
     let m = c.in-Good.m in
     (1 ≤ k + m) × (k + m ≤ 32) =
-        let p = (known).columns in (omega (arith, p), omega (arith, p)) in
+    let p = (known).columns in (omega (arith, p), omega (arith, p)) in
     let a = c.args in
     let g = known in
     let e : report c.turn_to.result ≡ turn_report (cardAt) a.l (length a.stripe.now) (length a.out.now) =

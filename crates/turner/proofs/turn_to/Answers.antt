@@ -5,8 +5,6 @@ use mathlib.Core.Bool.{true}
 use Prim.Native.Nat.{◌*◌, ◌≤◌}
 use native.Mathlib.Nat.{mul-le-mul_right}
 use native.Mathlib.Omega.{arith}
-use borrow.Author.Rules.{rules}
-use borrow.Author.Tests.{not-true, not-false}
 use Rattle.flat.specs.Strips.{length_ok}
 use Rattle.flat.specs.Faults.{unless_refused}
 use Rattle.flat.proofs.Lengths.{length_in_lem, stripe-small}
@@ -20,52 +18,52 @@ returns-then-not-length_ok c = record { result_value = λ C is. length-report _ 
 pub overflow_mul-n : goal.overflow_mul-n
 overflow_mul-n c =
     let good_length : length_ok c.args.l ≡ true =
-        sym c.length_ok.ensures ∙ c.if-not-length_ok.false in
+    sym c.length_ok.ensures ∙ c.if-not-length_ok.false in
     let small : c.args.n * c.args.l ≤ 2097152 =
-        stripe-small _ _ c.requires.0 (length_in_lem _ (good_length)).1 in
+    stripe-small _ _ c.requires.0 (length_in_lem _ (good_length)).1 in
     record { fits = omega (arith, small) }
 
 pub returns-then-stripe-n : goal.returns-then-stripe-n
 unfolding unless_refused
 returns-then-stripe-n c =
     let good_length : length_ok c.args.l ≡ true =
-        sym c.length_ok.ensures ∙ c.if-not-length_ok.false in
+    sym c.length_ok.ensures ∙ c.if-not-length_ok.false in
     record { result_value = λ C is. stripe-report _ _ _ _ C is (good_length) c.if-stripe-n.true; out_after = refl }
 
 pub overflow_mul-n-2 : goal.overflow_mul-n-2
 overflow_mul-n-2 c =
     let good_length : length_ok c.args.l ≡ true =
-        sym c.length_ok.ensures ∙ c.if-not-length_ok.false in
+    sym c.length_ok.ensures ∙ c.if-not-length_ok.false in
     let small : c.args.n * c.args.l ≤ 2097152 =
-        stripe-small _ _ c.requires.0 (length_in_lem _ (good_length)).1 in
+    stripe-small _ _ c.requires.0 (length_in_lem _ (good_length)).1 in
     record { fits = omega (arith, small) }
 
 pub returns-then-out-n : goal.returns-then-out-n
 unfolding unless_refused
 returns-then-out-n c =
     let good_length : length_ok c.args.l ≡ true =
-        sym c.length_ok.ensures ∙ c.if-not-length_ok.false in
+    sym c.length_ok.ensures ∙ c.if-not-length_ok.false in
     record { result_value = λ C is. buffer_report _ _ _ _ C is (good_length) c.if-out-n.true; out_after = refl }
 
 pub overflow_mul-first : goal.overflow_mul-first
 overflow_mul-first c =
     let good_length : length_ok c.args.l ≡ true =
-        sym c.length_ok.ensures ∙ c.if-not-length_ok.false in
+    sym c.length_ok.ensures ∙ c.if-not-length_ok.false in
     let small : c.args.n * c.args.l ≤ 2097152 =
-        stripe-small _ _ c.requires.0 (length_in_lem _ (good_length)).1 in
+    stripe-small _ _ c.requires.0 (length_in_lem _ (good_length)).1 in
     let inside : c.args.first * c.args.l ≤ c.args.n * c.args.l =
-        mul-le-mul_right _ c.requires.1 in
+    mul-le-mul_right _ c.requires.1 in
     record { fits = omega (arith, small, inside) }
 
 pub copy_cut-requires : goal.copy_cut-requires
 copy_cut-requires c =
     let inside : c.args.first * c.args.l ≤ c.args.n * c.args.l =
-        mul-le-mul_right _ c.requires.1 in
+    mul-le-mul_right _ c.requires.1 in
     (omega (arith, inside, c.if-stripe-n.false), omega (arith, c.if-out-n.false, c.if-stripe-n.false))
 
 pub returns : goal.returns
 unfolding unless_refused
 returns c =
     let good_length : length_ok c.args.l ≡ true =
-        sym c.length_ok.ensures ∙ c.if-not-length_ok.false in
+    sym c.length_ok.ensures ∙ c.if-not-length_ok.false in
     record { result_value = λ C is. done-report _ _ _ _ C is (good_length) c.if-stripe-n.false c.if-out-n.false; out_after = c.copy_cut.ensures }

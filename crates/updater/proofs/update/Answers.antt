@@ -1,30 +1,28 @@
 -- `updater::update` meets its contract.
 -- Assumes nothing.
-use mathlib.Core.Path.{◌≡◌, sym, ap, ◌∙◌}
+use mathlib.Core.Path.{◌≡◌, sym, ◌∙◌}
 use lib.ListN.{length}
 use Rattle.flat.specs.Cards.{Card, card_of}
-use Rattle.card.specs.Reports.{report as check_report}
 use Rattle.card.proofs.Callers.{GoodCard, good}
 use Rattle.updating.specs.Faults.{update_report}
 use Rattle.updater.specs.Reports.{report}
 use Rattle.updater.proofs.Answered.{good_report, good_stripe, bad_report, bad_stripe}
-use borrow.Author.Rules.{rules}
 use Rattle.updater.proofs.update.Goals as goal
 
 pub columns-requires : goal.columns-requires
 columns-requires c =
     let cardAt : Card =
-        let a = c.args in card_of a.edition a.card.now in
+    let a = c.args in card_of a.edition a.card.now in
     let known : GoodCard (cardAt) c.in-Good.k c.in-Good.m =
-        good _ _ _ (c.in-Good.ensures) in
+    good _ _ _ (c.in-Good.ensures) in
     (known).whole
 
 pub update_columns-requires : goal.update_columns-requires
 update_columns-requires c =
     let cardAt : Card =
-        let a = c.args in card_of a.edition a.card.now in
+    let a = c.args in card_of a.edition a.card.now in
     let known : GoodCard (cardAt) c.in-Good.k c.in-Good.m =
-        good _ _ _ (c.in-Good.ensures) in
+    good _ _ _ (c.in-Good.ensures) in
     rw c.columns.ensures (known).columns
 
 pub returns-in-Bad : goal.returns-in-Bad
@@ -37,9 +35,9 @@ returns-in-Bad c =
 pub returns-in-Good : goal.returns-in-Good
 returns-in-Good c =
     let cardAt : Card =
-        let a = c.args in card_of a.edition a.card.now in
+    let a = c.args in card_of a.edition a.card.now in
     let known : GoodCard (cardAt) c.in-Good.k c.in-Good.m =
-        good _ _ _ (c.in-Good.ensures) in
+    good _ _ _ (c.in-Good.ensures) in
     let a = c.args in
     let g = known in
     let v = c.update_columns in

@@ -5,7 +5,6 @@ use mathlib.Core.Bool.{true}
 use mathlib.Core.List.{[], ◌∷◌}
 use Prim.Native.Nat.{ℕ, ◌+◌, ◌≤◌}
 use native.Mathlib.Omega.{arith}
-use borrow.Author.Tests.{not-true, not-false}
 use Rattle.flat.specs.Cards.{code_in}
 use Rattle.flat.specs.Strips.{length_ok}
 use Rattle.flat.specs.Faults.{accepted, unless_refused}
@@ -23,20 +22,20 @@ pub returns-then-n-disk : goal.returns-then-n-disk
 unfolding unless_refused
 returns-then-n-disk c =
     let good_length : length_ok c.args.l ≡ true =
-        sym c.length_ok.ensures ∙ c.if-not-length_ok.false in
+    sym c.length_ok.ensures ∙ c.if-not-length_ok.false in
     record { result_value = disk-report _ _ _ _ _ _ _ (good_length) (search rules); stripe_after = search rules }
 
 pub returns-then-k-disk : goal.returns-then-k-disk
 unfolding unless_refused
 returns-then-k-disk c =
     let good_length : length_ok c.args.l ≡ true =
-        sym c.length_ok.ensures ∙ c.if-not-length_ok.false in
+    sym c.length_ok.ensures ∙ c.if-not-length_ok.false in
     record { result_value = parity-report _ _ _ _ _ _ _ (good_length) (search rules) (search rules); stripe_after = search rules }
 
 pub overflow_mul-n : goal.overflow_mul-n
 overflow_mul-n c =
     let good_length : length_ok c.args.l ≡ true =
-        sym c.length_ok.ensures ∙ c.if-not-length_ok.false in
+    sym c.length_ok.ensures ∙ c.if-not-length_ok.false in
     let few : c.args.k + c.args.m ≤ 32 = search rules in
     record { fits = omega (arith, stripe-small _ _ few (length_in_lem _ (good_length)).1) }
 
@@ -44,20 +43,20 @@ pub returns-then-stripe-n : goal.returns-then-stripe-n
 unfolding unless_refused
 returns-then-stripe-n c =
     let good_length : length_ok c.args.l ≡ true =
-        sym c.length_ok.ensures ∙ c.if-not-length_ok.false in
+    sym c.length_ok.ensures ∙ c.if-not-length_ok.false in
     record { result_value = stripe-report _ _ _ _ _ _ _ (good_length) c.if-k-disk.false c.if-stripe-n.true; stripe_after = search rules }
 
 pub returns-then-new-l : goal.returns-then-new-l
 unfolding unless_refused
 returns-then-new-l c =
     let good_length : length_ok c.args.l ≡ true =
-        sym c.length_ok.ensures ∙ c.if-not-length_ok.false in
+    sym c.length_ok.ensures ∙ c.if-not-length_ok.false in
     record { result_value = new-report _ _ _ _ _ _ _ (good_length) c.if-k-disk.false c.if-stripe-n.false c.if-new-l.true; stripe_after = search rules }
 
 pub rewrite-count-requires : goal.rewrite-count-requires
 rewrite-count-requires c =
     let good_length : length_ok c.args.l ≡ true =
-        sym c.length_ok.ensures ∙ c.if-not-length_ok.false in
+    sym c.length_ok.ensures ∙ c.if-not-length_ok.false in
     let e = c.if-new-l.false in
     let long = length_in_lem _ (good_length) in
     record { columns = (c.requires, c.if-k-disk.false); in_bounds = rw e (long.0, long.1, c.if-stripe-n.false) }
@@ -72,7 +71,10 @@ pub returns : goal.returns
 unfolding unless_refused
 returns c =
     let good_length : length_ok c.args.l ≡ true =
-        sym c.length_ok.ensures ∙ c.if-not-length_ok.false in
+    sym c.length_ok.ensures ∙ c.if-not-length_ok.false in
     let v = c.rewrite-count in
-    record { result_value = ap (λ (n : ℕ). accepted (n ∷ [])) (omega (arith, v.ensures.value))
-          ∙ past_report _ _ _ _ _ _ _ (good_length) c.if-k-disk.false c.if-stripe-n.false c.if-new-l.false; stripe_after = rw (← c.if-new-l.false) v.ensures.stripe_after }
+    record {
+      result_value = ap (λ (n : ℕ). accepted (n ∷ [])) (omega (arith, v.ensures.value))
+          ∙ past_report _ _ _ _ _ _ _ (good_length) c.if-k-disk.false c.if-stripe-n.false c.if-new-l.false;
+      stripe_after = rw (← c.if-new-l.false) v.ensures.stripe_after;
+    }

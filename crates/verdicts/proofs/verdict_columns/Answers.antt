@@ -4,8 +4,6 @@ use mathlib.Core.Path.{◌≡◌, sym, ◌∙◌}
 use mathlib.Core.Bool.{true}
 use Prim.Native.Nat.{◌+◌, ◌^◌}
 use lib.Dec.{ltb}
-use borrow.Author.Rules.{rules}
-use borrow.Author.Tests.{not-true, not-false}
 use Rattle.bases.proofs.Systematic.{taken}
 use Rattle.verdicts.proofs.Laws.{outside, undetermined-report}
 use Rattle.verdicts.proofs.verdict_columns.Goals as goal
@@ -16,6 +14,6 @@ returns-then-not-below c = outside _ _ _ _ (sym c.below.ensures ∙ c.if-not-bel
 pub returns : goal.returns
 returns c =
     let inside : let a = c.args in ltb a.set (2 ^ (a.k + a.m)) ≡ true =
-        sym c.below.ensures ∙ c.if-not-below.false in
+    sym c.below.ensures ∙ c.if-not-below.false in
     let b = c.rows in
     undetermined-report _ _ _ _ (inside) _ _ (taken _ _ _ _ b.ensures.0 b.ensures.1) c.undetermined-undetermined.ensures

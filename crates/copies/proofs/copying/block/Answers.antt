@@ -1,9 +1,7 @@
 -- `copies::copying::block` meets its contract: a table is stored place by place.
 -- Assumes nothing.
 use mathlib.Core.Path.{refl, ◌∙◌}
-use Prim.Native.Nat.{◌+◌, ◌-◌, ◌≤◌}
-use lib.ListN.{get_or}
-use Rattle.strip_blocks.proofs.Loops.{Table, table_none, table_more, table-all}
+use Rattle.strip_blocks.proofs.Loops.{table_none, table_more, table-all}
 use Rattle.copies.proofs.Blocks.{block-bytes}
 use borrow.Author.Rules.{rules}
 use Rattle.copies.proofs.copying.block.Goals as goal

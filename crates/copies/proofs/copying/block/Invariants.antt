@@ -1,11 +1,8 @@
 -- `copies::copying::block` meets its contract: a table is stored place by place.
 -- Assumes nothing.
-use mathlib.Core.Path.{refl, ◌∙◌}
-use Prim.Native.Nat.{◌+◌, ◌-◌, ◌≤◌}
+use Prim.Native.Nat.{◌+◌, ◌≤◌}
 use lib.ListN.{get_or}
-use Rattle.strip_blocks.proofs.Loops.{Table, table_none, table_more, table-all}
-use Rattle.copies.proofs.Blocks.{block-bytes}
-use borrow.Author.Rules.{rules}
+use Rattle.strip_blocks.proofs.Loops.{Table}
 use Rattle.copies.proofs.copying.block.Given as goal
 
 abbrev pub invariant-loop-t : goal.invariant-loop-t

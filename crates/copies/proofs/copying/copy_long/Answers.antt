@@ -1,11 +1,8 @@
 -- `copies::copying::copy_long` meets its contract: a run is copied block by block, and then its rest.
 -- Assumes nothing.
 use mathlib.Core.Path.{◌∙◌}
-use Prim.Native.Nat.{◌-◌}
-use lib.ListN.{length}
 use Rattle.flat.proofs.Lists.{rest}
-use Rattle.copies.proofs.Blocks.{Run, run_none, run_more, run_rest}
-use borrow.Author.Rules.{rules}
+use Rattle.copies.proofs.Blocks.{run_none, run_more, run_rest}
 use Rattle.copies.proofs.copying.copy_long.Goals as goal
 
 pub loop-o-init : goal.loop-o-init

@@ -1,5 +1,4 @@
 -- `export_codes::there_code` meets its contract. Assumes nothing.
-use borrow.Author.Rules.{rules}
 use Rattle.export_codes.proofs.records.there_code.Goals as goal
 
 pub record_fault_code-requires : goal.record_fault_code-requires

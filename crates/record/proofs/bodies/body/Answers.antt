@@ -1,6 +1,5 @@
 -- `record::bodies::body` meets its contract: the part is the file's own.
 -- Assumes nothing.
-use borrow.Author.Rules.{rules}
 use Rattle.record.proofs.Places.{body_lent}
 use Rattle.record.proofs.bodies.body.Goals as goal
 

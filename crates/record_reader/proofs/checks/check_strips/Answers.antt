@@ -1,8 +1,6 @@
 -- `record_reader::checks::check_strips` meets its contract.
 -- Assumes nothing.
 use mathlib.Core.Path.{sym, ◌∙◌}
-use borrow.Author.Tests.{not-true, not-false}
-use borrow.Author.Rules.{rules}
 use Rattle.record_reader.proofs.Strips.{other_entry, other_end, good_end}
 use borrow.Author.Tests.{eq-eqb, ne_eqb}
 use Rattle.record_reader.proofs.checks.check_strips.Goals as goal

@@ -1,7 +1,6 @@
 -- `record_reader::checks::entries_ok` meets its contract.
 -- Assumes nothing.
 use native.Mathlib.Omega.{arith}
-use borrow.Author.Rules.{rules}
 use Rattle.record_reader.proofs.Heads.{entries-few, entries-many, entries_fit}
 use Rattle.record_reader.proofs.checks.entries_ok.Goals as goal
 

@@ -2,9 +2,8 @@
 -- Assumes nothing.
 use mathlib.Core.Path.{◌≡◌, refl, sym, ap, ◌∙◌}
 use mathlib.Core.Bool.{true}
-use Prim.Native.Nat.{ℕ, ◌-◌, ◌≤◌}
+use Prim.Native.Nat.{ℕ}
 use native.Mathlib.Omega.{arith}
-use borrow.Author.Tests.{not-true, not-false}
 use Rattle.flat.specs.Lists.{every}
 use Rattle.record_format.specs.Records.{strip_entries_ok}
 use borrow.Author.Rules.{rules}
@@ -19,13 +18,13 @@ pub returns-then-not-stands : goal.returns-then-not-stands
 unfolding strip_entries_ok
 returns-then-not-stands c =
     let found : entry_stands c.args.file.now c.args.start c.args.l c.args.lost c.loop-i.i ≡ c.stands.result =
-        entry-stands _ _ _ _ _ _ _ (omega arith) c.strip_entry-entry.ensures c.stands.ensures in
+    entry-stands _ _ _ _ _ _ _ (omega arith) c.strip_entry-entry.ensures c.stands.ensures in
     every_other _ _ _ c.loop-i-test.true (found ∙ c.if-not-stands.true)
 
 pub loop-i-preserved : goal.loop-i-preserved
 loop-i-preserved c =
     let found : entry_stands c.args.file.now c.args.start c.args.l c.args.lost c.loop-i.i ≡ c.stands.result =
-        entry-stands _ _ _ _ _ _ _ (omega arith) c.strip_entry-entry.ensures c.stands.ensures in
+    entry-stands _ _ _ _ _ _ _ (omega arith) c.strip_entry-entry.ensures c.stands.ensures in
     (search rules, every_more _ _ c.loop-i.invariant.1 (found ∙ c.if-not-stands.false))
 
 pub returns : goal.returns

@@ -1,8 +1,7 @@
 -- `record_reader::checks::lost_in` meets its contract: the set of the lost disks that the loop has passed.
 -- Assumes nothing.
 use mathlib.Core.Path.{◌≡◌, refl, ap, ◌∙◌}
-use mathlib.Core.Logic.{⊎_elim}
-use Prim.Native.Nat.{ℕ, ◌-◌, ◌≤◌}
+use Prim.Native.Nat.{ℕ}
 use native.Mathlib.Omega.{arith}
 use Rattle.flat.specs.Lists.{set_of}
 use Rattle.record_format.specs.Records.{lost_in}
@@ -20,11 +19,10 @@ overflow_add-lost c =
     record { fits = lost_fits _ _ _ c.loop-i.invariant.1 (omega arith) }
 
 pub loop-i-preserved : goal.loop-i-preserved
-loop-i-preserved c =
-    (
-      search rules,
-      elim c.if-file-i-eq2.branch [ then-file-i-eq2 t ↦ t.lost-is ∙ lost-more _ _ _ c.loop-i.invariant.1 (omega arith) t.if-file-i-eq2.true | else-file-i-eq2 t ↦ t.lost-is ∙ lost-same _ _ _ c.loop-i.invariant.1 t.if-file-i-eq2.false ],
-    )
+loop-i-preserved c = (
+  search rules,
+  elim c.if-file-i-eq2.branch [ then-file-i-eq2 t ↦ t.lost-is ∙ lost-more _ _ _ c.loop-i.invariant.1 (omega arith) t.if-file-i-eq2.true | else-file-i-eq2 t ↦ t.lost-is ∙ lost-same _ _ _ c.loop-i.invariant.1 t.if-file-i-eq2.false ],
+)
 
 pub returns : goal.returns
 unfolding lost_in

@@ -1,13 +1,9 @@
 -- `record_reader::checks::lost_in` meets its contract: the set of the lost disks that the loop has passed.
 -- Assumes nothing.
-use mathlib.Core.Path.{◌≡◌, refl, ap, ◌∙◌}
-use mathlib.Core.Logic.{⊎_elim}
-use Prim.Native.Nat.{ℕ, ◌-◌, ◌≤◌}
-use native.Mathlib.Omega.{arith}
+use mathlib.Core.Path.{◌≡◌}
+use Prim.Native.Nat.{◌≤◌}
 use Rattle.flat.specs.Lists.{set_of}
-use Rattle.record_format.specs.Records.{lost_in}
-use borrow.Author.Rules.{rules}
-use Rattle.record_reader.proofs.LostSet.{lost_at, lost_fits, lost-more, lost-same}
+use Rattle.record_reader.proofs.LostSet.{lost_at}
 use Rattle.record_reader.proofs.checks.lost_in.Given as goal
 
 abbrev pub invariant-loop-i : goal.invariant-loop-i

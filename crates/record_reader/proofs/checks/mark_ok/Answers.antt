@@ -1,6 +1,5 @@
 -- `record_reader::checks::mark_ok` meets its contract.
 -- Assumes nothing.
-use borrow.Author.Rules.{rules}
 use Rattle.record_reader.proofs.Heads.{mark-short, mark-long}
 use Rattle.record_reader.proofs.checks.mark_ok.Goals as goal
 

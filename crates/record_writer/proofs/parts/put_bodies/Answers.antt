@@ -1,10 +1,9 @@
 -- `record_writer::parts::put_bodies` meets its contract: each body goes right after the one before it.
 -- Assumes nothing.
 use mathlib.Core.Path.{◌≡◌, refl, sym}
-use Prim.Native.Nat.{suc, ◌-◌, ◌≤◌}
+use Prim.Native.Nat.{suc}
 use native.Mathlib.Omega.{arith}
-use Rattle.record_format.specs.Records.{strip_body}
-use Rattle.record_writer.proofs.Runs.{Laid, laid_none, laid_more, laid-all}
+use Rattle.record_writer.proofs.Runs.{laid_none, laid_more, laid-all}
 use Rattle.record_format.proofs.Places.{strip-room, body-next, bodies_end, body_grows}
 use borrow.Author.Rules.{rules}
 use Rattle.record_writer.proofs.parts.put_bodies.Goals as goal

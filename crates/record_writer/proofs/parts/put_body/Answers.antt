@@ -4,13 +4,11 @@ use mathlib.Core.Path.{◌≡◌, sym, ap, ap₂, ◌∙◌}
 use mathlib.Core.Bool.{true, false}
 use lib.ListN.{length}
 use native.Mathlib.Omega.{arith}
-use borrow.Author.Tests.{not-true, not-false}
 use Rattle.gf2.specs.Sets.{has}
 use Rattle.flat.specs.Lists.{put}
 use Rattle.flat.proofs.Lists.{put-none}
 use Rattle.record_format.proofs.Places.{body-next}
 use Rattle.record_writer.proofs.Lent.{part_strip, body-there, body-lost}
-use borrow.Author.Rules.{rules}
 use Rattle.record_writer.proofs.parts.put_body.Goals as goal
 
 pub copy_long-requires : goal.copy_long-requires

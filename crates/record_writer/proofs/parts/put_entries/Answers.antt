@@ -1,10 +1,8 @@
 -- `record_writer::parts::put_entries` meets its contract: each entry goes right after the one before it.
 -- Assumes nothing.
 use mathlib.Core.Path.{◌≡◌}
-use Prim.Native.Nat.{◌-◌, ◌≤◌}
 use native.Mathlib.Omega.{arith}
-use Rattle.record_format.specs.Records.{strip_entry}
-use Rattle.record_writer.proofs.Runs.{Laid, laid_none, laid_more, laid-all}
+use Rattle.record_writer.proofs.Runs.{laid_none, laid_more, laid-all}
 use Rattle.record_format.proofs.Entries.{length-strip-entry}
 use Rattle.record_format.proofs.Places.{length-entries}
 use borrow.Author.Rules.{rules}

@@ -1,13 +1,8 @@
 -- `record_writer::parts::put_entries` meets its contract: each entry goes right after the one before it.
 -- Assumes nothing.
-use mathlib.Core.Path.{◌≡◌}
-use Prim.Native.Nat.{◌-◌, ◌≤◌}
-use native.Mathlib.Omega.{arith}
+use Prim.Native.Nat.{◌≤◌}
 use Rattle.record_format.specs.Records.{strip_entry}
-use Rattle.record_writer.proofs.Runs.{Laid, laid_none, laid_more, laid-all}
-use Rattle.record_format.proofs.Entries.{length-strip-entry}
-use Rattle.record_format.proofs.Places.{length-entries}
-use borrow.Author.Rules.{rules}
+use Rattle.record_writer.proofs.Runs.{Laid}
 use Rattle.record_writer.proofs.parts.put_entries.Given as goal
 
 abbrev pub invariant-loop-i : goal.invariant-loop-i

@@ -17,35 +17,35 @@ pub copy-requires : goal.copy-requires
 copy-requires c =
     let room_at : let a = c.args in
     20 + 10 * a.n + length a.card.now ≤ length a.out.now =
-        let a = c.args in room a.card.now a.n a.l a.lost a.out.now c.requires.4 in
+    let a = c.args in room a.card.now a.n a.l a.lost a.out.now c.requires.4 in
     omega (arith, room_at)
 
 pub copy-requires-2 : goal.copy-requires-2
 copy-requires-2 c =
     let room_at : let a = c.args in
     20 + 10 * a.n + length a.card.now ≤ length a.out.now =
-        let a = c.args in room a.card.now a.n a.l a.lost a.out.now c.requires.4 in
+    let a = c.args in room a.card.now a.n a.l a.lost a.out.now c.requires.4 in
     omega (arith, room_at)
 
 pub copy-requires-3 : goal.copy-requires-3
 copy-requires-3 c =
     let room_at : let a = c.args in
     20 + 10 * a.n + length a.card.now ≤ length a.out.now =
-        let a = c.args in room a.card.now a.n a.l a.lost a.out.now c.requires.4 in
+    let a = c.args in room a.card.now a.n a.l a.lost a.out.now c.requires.4 in
     omega (arith, room_at)
 
 pub put_entries-requires : goal.put_entries-requires
 put_entries-requires c =
     let room_at : let a = c.args in
     20 + 10 * a.n + length a.card.now ≤ length a.out.now =
-        let a = c.args in room a.card.now a.n a.l a.lost a.out.now c.requires.4 in
+    let a = c.args in room a.card.now a.n a.l a.lost a.out.now c.requires.4 in
     (search rules, search rules, search rules, omega (arith, room_at))
 
 pub copy-requires-4 : goal.copy-requires-4
 copy-requires-4 c =
     let room_at : let a = c.args in
     20 + 10 * a.n + length a.card.now ≤ length a.out.now =
-        let a = c.args in room a.card.now a.n a.l a.lost a.out.now c.requires.4 in
+    let a = c.args in room a.card.now a.n a.l a.lost a.out.now c.requires.4 in
     omega (arith, room_at)
 
 pub put_bodies-requires : goal.put_bodies-requires
@@ -58,10 +58,10 @@ returns c =
     let head : let a = c.args in
     c.copy-3.new.out
     ≡ put (put (put a.out.now 0 mark) 4 (sizes_of a.n a.l)) 10 (entry 0 0 (20 + 10 * a.n) (length a.card.now)) =
-        c.copy-3.ensures
-        ∙ ap₂ (λ (x y : List ℕ). put x 10 y)
-        (c.copy-2.ensures ∙ ap₂ (λ (x y : List ℕ). put x 4 y) c.copy.ensures c.sizes-sizes.ensures)
-        c.entry-entry.ensures in
+    c.copy-3.ensures
+    ∙ ap₂ (λ (x y : List ℕ). put x 10 y)
+    (c.copy-2.ensures ∙ ap₂ (λ (x y : List ℕ). put x 4 y) c.copy.ensures c.sizes-sizes.ensures)
+    c.entry-entry.ensures in
     let a = c.args in
     let bodies = 20 + 10 * a.n in
     let entries = each (strip_entry (bodies + length a.card.now) a.l a.lost) (range 0 a.n) in

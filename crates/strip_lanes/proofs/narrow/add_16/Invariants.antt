@@ -1,12 +1,9 @@
 -- `strip_lanes::narrow::add_16` meets its contract: 16 products are XORed in, place by place.
 -- Assumes nothing.
-use mathlib.Core.Path.{◌≡◌}
-use Prim.Native.Nat.{◌+◌, ◌-◌, ◌*◌, ◌≤◌}
+use Prim.Native.Nat.{◌+◌, ◌*◌, ◌≤◌}
 use lib.ListN.{get_or}
-use Rattle.gf2.specs.Sets.{◌⊕◌}
-use Rattle.strip_blocks.proofs.Runs.{Run, run_none, run_all}
-use Rattle.strip_products.proofs.Joined.{joined, joined-more}
-use borrow.Author.Rules.{rules}
+use Rattle.strip_blocks.proofs.Runs.{Run}
+use Rattle.strip_products.proofs.Joined.{joined}
 use Rattle.strip_lanes.proofs.narrow.add_16.Given as goal
 
 abbrev pub invariant-loop-t : goal.invariant-loop-t

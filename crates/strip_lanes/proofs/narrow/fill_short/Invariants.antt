@@ -1,13 +1,9 @@
 -- `strip_lanes::narrow::fill_short` meets its contract: the strip is written up to o or its end, the sums from o on are 0.
 -- Assumes nothing.
-use mathlib.Core.Path.{◌≡◌, ◌∙◌, subst}
-use Prim.Native.Nat.{ℕ, ◌+◌, ◌-◌, ◌*◌, ◌%◌, ◌≤◌, min}
-use native.Mathlib.Nat.{mul-le-mul_right}
-use native.Mathlib.Omega.{arith}
+use mathlib.Core.Path.{◌≡◌}
+use Prim.Native.Nat.{ℕ, ◌-◌, ◌%◌, ◌≤◌, min}
 use lib.ListN.{length, get_or}
-use Rattle.flat.proofs.Lists.{get_d_zeros}
-use Rattle.strip_lanes.proofs.Lanes.{StripTo, strip-none, strip-sums, strip-all}
-use borrow.Author.Rules.{rules}
+use Rattle.strip_lanes.proofs.Lanes.{StripTo}
 use Rattle.strip_lanes.proofs.narrow.fill_short.Given as goal
 
 abbrev pub invariant-loop-o : goal.invariant-loop-o

@@ -1,10 +1,10 @@
 -- `strip_lanes::narrow::sum_16` meets its contract: the strips go in one after the other, each times its bit.
 -- Assumes nothing.
 use mathlib.Core.Path.{◌≡◌, sym, ap, ◌∙◌}
-use Prim.Native.Nat.{ℕ, ◌+◌, ◌-◌, ◌*◌, ◌≤◌}
+use Prim.Native.Nat.{ℕ, ◌+◌, ◌*◌, ◌≤◌}
 use native.Mathlib.Omega.{arith}
 use lib.ListN.{get_or}
-use Rattle.strip_blocks.proofs.Runs.{Run, run_there}
+use Rattle.strip_blocks.proofs.Runs.{run_there}
 use Rattle.flat.proofs.Positions.{strip-within}
 use Rattle.strip_products.specs.Products.{parity_byte}
 use Rattle.strip_products.proofs.Products.{parity-none, parity-more}
@@ -18,19 +18,19 @@ loop-i-init c = (search rules, run_there _ _ _ 16 (λ u h. c.requires.sums_len.2
 pub overflow_mul-i : goal.overflow_mul-i
 overflow_mul-i c =
     let inside : let a = c.args in c.loop-i.i * a.l + a.l ≤ a.k * a.l =
-        let a = c.args in strip-within c.loop-i.i a.k a.l (omega arith) in
+    let a = c.args in strip-within c.loop-i.i a.k a.l (omega arith) in
     omega (arith, inside)
 
 pub overflow_add-i : goal.overflow_add-i
 overflow_add-i c =
     let inside : let a = c.args in c.loop-i.i * a.l + a.l ≤ a.k * a.l =
-        let a = c.args in strip-within c.loop-i.i a.k a.l (omega arith) in
+    let a = c.args in strip-within c.loop-i.i a.k a.l (omega arith) in
     omega (arith, inside)
 
 pub add_16-requires : goal.add_16-requires
 add_16-requires c =
     let inside : let a = c.args in c.loop-i.i * a.l + a.l ≤ a.k * a.l =
-        let a = c.args in strip-within c.loop-i.i a.k a.l (omega arith) in
+    let a = c.args in strip-within c.loop-i.i a.k a.l (omega arith) in
     let lp = c.loop-i in
     let n = c.requires in
     (lp.invariant.1.long ∙ n.sums_len.0, search rules, omega (arith, inside), n.k_bound.4 _)

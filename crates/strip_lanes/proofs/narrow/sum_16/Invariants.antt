@@ -1,15 +1,8 @@
 -- `strip_lanes::narrow::sum_16` meets its contract: the strips go in one after the other, each times its bit.
 -- Assumes nothing.
-use mathlib.Core.Path.{◌≡◌, sym, ap, ◌∙◌}
-use Prim.Native.Nat.{ℕ, ◌+◌, ◌-◌, ◌*◌, ◌≤◌}
-use native.Mathlib.Omega.{arith}
-use lib.ListN.{get_or}
-use Rattle.strip_blocks.proofs.Runs.{Run, run_there}
-use Rattle.flat.proofs.Positions.{strip-within}
+use Prim.Native.Nat.{◌+◌, ◌≤◌}
+use Rattle.strip_blocks.proofs.Runs.{Run}
 use Rattle.strip_products.specs.Products.{parity_byte}
-use Rattle.strip_products.proofs.Products.{parity-none, parity-more}
-use Rattle.strip_products.proofs.Joined.{joined-again}
-use borrow.Author.Rules.{rules}
 use Rattle.strip_lanes.proofs.narrow.sum_16.Given as goal
 
 abbrev pub invariant-loop-i : goal.invariant-loop-i

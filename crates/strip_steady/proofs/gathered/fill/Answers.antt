@@ -1,11 +1,10 @@
 -- `strip_steady::gathered::fill` meets its contract: the bytes below o of the parity strips are made.
 -- Assumes nothing.
 use mathlib.Core.Path.{◌≡◌, sym, ◌∙◌}
-use Prim.Native.Nat.{◌+◌, ◌-◌, ◌*◌, ◌≤◌}
+use Prim.Native.Nat.{◌+◌, ◌*◌, ◌≤◌}
 use native.Mathlib.Nat.{mul-le-mul_right}
 use native.Mathlib.Omega.{arith}
-use lib.ListN.{length}
-use Rattle.strip_steady.proofs.Offsets.{OffsetsTo, offsets_none, offsets_more, offsets_all}
+use Rattle.strip_steady.proofs.Offsets.{offsets_none, offsets_more, offsets_all}
 use borrow.Author.Rules.{rules}
 use Rattle.strip_steady.proofs.gathered.fill.Goals as goal
 

@@ -1,10 +1,10 @@
 -- `strip_steady::gathered::fill_block` meets its contract: the blocks of the parity disks so far are put.
 -- Assumes nothing.
 use mathlib.Core.Path.{◌≡◌}
-use Prim.Native.Nat.{◌+◌, ◌-◌, ◌*◌, ◌≤◌}
+use Prim.Native.Nat.{◌+◌, ◌*◌, ◌≤◌}
 use native.Mathlib.Omega.{arith}
 use Rattle.flat.proofs.Positions.{strip-within}
-use Rattle.strip_steady.proofs.Offsets.{BlocksTo, blocks-none, blocks_more, blocks-all}
+use Rattle.strip_steady.proofs.Offsets.{blocks-none, blocks_more, blocks-all}
 use borrow.Author.Rules.{rules}
 use Rattle.strip_steady.proofs.gathered.fill_block.Goals as goal
 
@@ -16,25 +16,25 @@ loop-j-init c =
 pub overflow_mul-k : goal.overflow_mul-k
 overflow_mul-k c =
     let inside : let a = c.args in (a.k + c.loop-j.j) * a.l + a.l ≤ (a.k + a.m) * a.l =
-        let a = c.args in strip-within (a.k + c.loop-j.j) (a.k + a.m) a.l (omega arith) in
+    let a = c.args in strip-within (a.k + c.loop-j.j) (a.k + a.m) a.l (omega arith) in
     omega (arith, inside)
 
 pub overflow_add-k-in-loop-j : goal.overflow_add-k-in-loop-j
 overflow_add-k-in-loop-j c =
     let inside : let a = c.args in (a.k + c.loop-j.j) * a.l + a.l ≤ (a.k + a.m) * a.l =
-        let a = c.args in strip-within (a.k + c.loop-j.j) (a.k + a.m) a.l (omega arith) in
+    let a = c.args in strip-within (a.k + c.loop-j.j) (a.k + a.m) a.l (omega arith) in
     omega (arith, inside)
 
 pub put-requires : goal.put-requires
 put-requires c =
     let inside : let a = c.args in (a.k + c.loop-j.j) * a.l + a.l ≤ (a.k + a.m) * a.l =
-        let a = c.args in strip-within (a.k + c.loop-j.j) (a.k + a.m) a.l (omega arith) in
+    let a = c.args in strip-within (a.k + c.loop-j.j) (a.k + a.m) a.l (omega arith) in
     omega (arith, inside, c.loop-j.invariant.1.long)
 
 pub loop-j-preserved : goal.loop-j-preserved
 loop-j-preserved c =
     let inside : let a = c.args in (a.k + c.loop-j.j) * a.l + a.l ≤ (a.k + a.m) * a.l =
-        let a = c.args in strip-within (a.k + c.loop-j.j) (a.k + a.m) a.l (omega arith) in
+    let a = c.args in strip-within (a.k + c.loop-j.j) (a.k + a.m) a.l (omega arith) in
     let a = c.args in
     (search rules, blocks_more a.k a.l a.local.now a.lanes.now a.o a.s.now _ _ _ _ c.loop-j.invariant.1 (search rules) (omega (arith, inside)) c.sum-block.ensures c.put.ensures)
 

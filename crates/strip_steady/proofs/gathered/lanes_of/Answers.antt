@@ -1,7 +1,6 @@
 -- `strip_steady::gathered::lanes_of` meets its contract: the lanes of the parity disks so far are there.
 -- Assumes nothing.
-use Prim.Native.Nat.{◌-◌, ◌≤◌}
-use Rattle.strip_steady.proofs.Offsets.{Tabled, tabled_none, tabled_more}
+use Rattle.strip_steady.proofs.Offsets.{tabled_none, tabled_more}
 use borrow.Author.Rules.{rules}
 use Rattle.strip_steady.proofs.gathered.lanes_of.Goals as goal
 

@@ -1,8 +1,7 @@
 -- `strip_steady::gathered::lanes_of` meets its contract: the lanes of the parity disks so far are there.
 -- Assumes nothing.
-use Prim.Native.Nat.{◌-◌, ◌≤◌}
-use Rattle.strip_steady.proofs.Offsets.{Tabled, tabled_none, tabled_more}
-use borrow.Author.Rules.{rules}
+use Prim.Native.Nat.{◌≤◌}
+use Rattle.strip_steady.proofs.Offsets.{Tabled}
 use Rattle.strip_steady.proofs.gathered.lanes_of.Given as goal
 
 abbrev pub invariant-loop-j : goal.invariant-loop-j

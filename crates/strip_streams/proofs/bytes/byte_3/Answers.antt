@@ -1,9 +1,7 @@
 -- `strip_streams::bytes::byte_3` meets its contract.
 -- Assumes nothing.
 use mathlib.Core.Path.{refl}
-use Rattle.gf2.specs.Sets.{◌⊕◌}
 use Rattle.strip_blocks.specs.Totals.{total}
-use borrow.Author.Rules.{rules}
 use Rattle.strip_streams.proofs.bytes.byte_3.Goals as goal
 
 pub returns : goal.returns
