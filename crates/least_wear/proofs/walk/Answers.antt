@@ -1,5 +1,6 @@
 -- `least_wear::walk` meets its contract: w is the word that x - 1 steps lead to, and the least rank met so far is known.
 -- Assumes nothing.
+use Rattle.gf2.specs.Sets.{◌⊕◌}
 use mathlib.Core.Path.{◌≡◌, sym, ap, ◌∙◌, subst}
 use mathlib.Core.Logic.{◌≢◌}
 use Prim.Native.Nat.{ℕ, ◌+◌, ◌-◌, ◌*◌, ◌%◌, ◌^◌, ◌<◌}

@@ -3,7 +3,7 @@
 use mathlib.Core.Path.{◌≡◌, refl, sym, ap, ◌∙◌}
 use Prim.Native.Nat.{ℕ}
 use native.Mathlib.Omega.{arith}
-use Rattle.gf2.specs.Sets.{◌∖◌}
+use Rattle.gf2.specs.Sets.{◌∖◌, ◌∩◌}
 use Rattle.peeler.specs.Forms.{Found, found}
 use Rattle.peeler.proofs.Passing.{pass_better, pass_older}
 use borrow.Author.Rules.{rules}

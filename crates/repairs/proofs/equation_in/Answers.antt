@@ -4,7 +4,7 @@ use mathlib.Core.Path.{ap, ap₂, ◌∙◌}
 use Prim.Native.Nat.{ℕ}
 use lib.Bits.{bit_xor}
 use lib.ListN.{take}
-use Rattle.gf2.specs.Sets.{◌∖◌}
+use Rattle.gf2.specs.Sets.{◌∖◌, ◌⊕◌}
 use Rattle.gf2.specs.Within.{within}
 use Rattle.gf2.proofs.Bits.{one_shifted}
 use Rattle.flat.specs.Repairs.{holder, equation_in}

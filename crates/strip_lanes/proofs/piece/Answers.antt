@@ -1,5 +1,6 @@
 -- `strip_lanes::piece` meets its contract: 16 products are XORed in, place by place.
 -- Assumes nothing.
+use Rattle.gf2.specs.Sets.{◌⊕◌}
 use mathlib.Core.Path.{◌≡◌}
 use Prim.Native.Nat.{◌+◌}
 use native.Mathlib.Omega.{arith}

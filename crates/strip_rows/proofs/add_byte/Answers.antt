@@ -1,5 +1,6 @@
 -- `strip_rows::add_byte` meets its contract: 16 products are XORed in, place by place.
 -- Assumes nothing.
+use Rattle.gf2.specs.Sets.{◌⊕◌}
 use Prim.Native.Nat.{◌+◌}
 use native.Mathlib.Omega.{arith}
 use Rattle.strip_blocks.proofs.Runs.{run_none, run_all}

@@ -1,5 +1,6 @@
 -- `strip_blocks::bytes::added_if_1` meets its contract, by the two cases of the test.
 -- Assumes nothing.
+use Rattle.gf2.specs.Sets.{◌⊕◌}
 use mathlib.Core.Path.{sym, ◌∙◌}
 use Rattle.gf2.proofs.Xor.{⊕-zero}
 use Rattle.strip_blocks.proofs.bytes.added_if_1.Goals as goal

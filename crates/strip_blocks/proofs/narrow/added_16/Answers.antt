@@ -1,5 +1,6 @@
 -- `strip_blocks::narrow::added_16` meets its contract: a table is stored place by place.
 -- Assumes nothing.
+use Rattle.gf2.specs.Sets.{◌⊕◌}
 use mathlib.Core.Path.{refl}
 use Rattle.strip_blocks.proofs.Loops.{table_none, table_more, table-all}
 use borrow.Author.Rules.{rules}

@@ -1,5 +1,6 @@
 -- `strip_lanes::narrow::add_16` meets its contract: 16 products are XORed in, place by place.
 -- Assumes nothing.
+use Rattle.gf2.specs.Sets.{◌⊕◌}
 use mathlib.Core.Path.{◌≡◌}
 use Rattle.strip_blocks.proofs.Runs.{run_none, run_all}
 use Rattle.strip_products.proofs.Joined.{joined-more}

@@ -1,5 +1,6 @@
 -- `strip_streams::bytes::byte_6` meets its contract: one strip more.
 -- Assumes nothing.
+use Rattle.gf2.specs.Sets.{◌⊕◌}
 use Rattle.strip_blocks.specs.Totals.{total}
 use Rattle.strip_streams.proofs.bytes.byte_6.Goals as goal
 
