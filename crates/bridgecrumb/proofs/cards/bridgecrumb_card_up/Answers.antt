@@ -1,0 +1,14 @@
+-- `bridgecrumb::cards::bridgecrumb_card_up` meets its contract. Assumes nothing.
+use mathlib.Core.Path.{ap, ◌∙◌}
+use Rattle.export_bounds.specs.Coded.{coded}
+use Rattle.export_bounds.proofs.EditionValues.{up_fits}
+use borrow.Author.Rules.{rules}
+use Rattle.bridgecrumb.proofs.cards.bridgecrumb_card_up.Goals as goal
+
+pub converted_code-requires : goal.converted_code-requires
+converted_code-requires c = rw c.up.ensures.result_value (up_fits _ _)
+
+pub returns : goal.returns
+returns c =
+    let v = c.up in
+    record { value = c.converted_code.ensures ∙ ap coded v.ensures.result_value; out_after = v.ensures.out_after }
