@@ -1,6 +1,5 @@
 -- `bridgecrumb::bridgecrumb_equations` meets its contract. Assumes nothing.
 use mathlib.Core.Path.{sym, ap, ◌∙◌}
-use borrow.Author.Rules.{rules}
 use Rattle.export_bounds.specs.Coded.{coded}
 use Rattle.export_bounds.proofs.Values.{equations_fits}
 use Rattle.bridgecrumb.proofs.bridgecrumb_equations.Goals as goal
@@ -11,5 +10,4 @@ told_code-requires c = rw c.list.ensures.result_value (equations_fits _ _ _)
 pub returns : goal.returns
 returns c =
     let l = c.list in
-
-    record { value = (rw (sym c.edition.ensures) (c.told_code.ensures ∙ ap coded l.ensures.result_value, l.ensures.out_after)).0; out_after = (rw (sym c.edition.ensures) (c.told_code.ensures ∙ ap coded l.ensures.result_value, l.ensures.out_after)).1 }
+    record { value = rw (sym c.edition.ensures) (c.told_code.ensures ∙ ap coded l.ensures.result_value); out_after = rw (sym c.edition.ensures) (l.ensures.out_after) }

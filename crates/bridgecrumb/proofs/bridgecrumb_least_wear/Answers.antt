@@ -2,7 +2,6 @@
 use mathlib.Core.Path.{sym, ap, ◌∙◌}
 use Rattle.export_bounds.specs.Coded.{coded}
 use Rattle.export_bounds.proofs.WearValues.{least_wear_fits}
-use borrow.Author.Rules.{rules}
 use Rattle.bridgecrumb.proofs.bridgecrumb_least_wear.Goals as goal
 
 pub least_wear_code-requires : goal.least_wear_code-requires

@@ -1,6 +1,5 @@
 -- `bridgecrumb::bridgecrumb_list` meets its contract: the vector is written where the list is. Assumes nothing.
 use mathlib.Core.Path.{◌≡◌, sym, ap, ◌∙◌}
-use borrow.Author.Rules.{rules}
 use lib.ListN.{length}
 use Rattle.flat.specs.Cards.{card_of}
 use Rattle.flat.specs.Faults.{erasures_report}
@@ -16,30 +15,16 @@ pub returns-then-code-ne0 : goal.returns-then-code-ne0
 returns-then-code-ne0 c =
     let told : let a = c.args in
     let e = c.edition.result in
-
-    record { value = (c.listed_code-code.result ≡ coded (erasures_report (card_of e a.card.now) (length a.out.now)) =
-        c.listed_code-code.ensures ∙ ap coded c.list-listing.ensures.answer_value in
+    c.listed_code-code.result ≡ coded (erasures_report (card_of e a.card.now) (length a.out.now)) =
+    c.listed_code-code.ensures ∙ ap coded c.list-listing.ensures.answer_value in
     let l = c.list-listing in
-    rw (sym c.edition.ensures) (told, (l.ensures.out_after, kept _ (erasures_fits _ _) _ (told) _ _ c.if-code-ne0.true))).0; out_after = (c.listed_code-code.result ≡ coded (erasures_report (card_of e a.card.now) (length a.out.now)) =
-        c.listed_code-code.ensures ∙ ap coded c.list-listing.ensures.answer_value in
-    let l = c.list-listing in
-    rw (sym c.edition.ensures) (told, (l.ensures.out_after, kept _ (erasures_fits _ _) _ (told) _ _ c.if-code-ne0.true))).1.0; vector_after = (c.listed_code-code.result ≡ coded (erasures_report (card_of e a.card.now) (length a.out.now)) =
-        c.listed_code-code.ensures ∙ ap coded c.list-listing.ensures.answer_value in
-    let l = c.list-listing in
-    rw (sym c.edition.ensures) (told, (l.ensures.out_after, kept _ (erasures_fits _ _) _ (told) _ _ c.if-code-ne0.true))).1.1 }
+    record { value = rw (sym c.edition.ensures) (told); out_after = rw (sym c.edition.ensures) (l.ensures.out_after); vector_after = rw (sym c.edition.ensures) (kept _ (erasures_fits _ _) _ (told) _ _ c.if-code-ne0.true) }
 
 pub returns : goal.returns
 returns c =
     let told : let a = c.args in
     let e = c.edition.result in
-
-    record { value = (c.listed_code-code.result ≡ coded (erasures_report (card_of e a.card.now) (length a.out.now)) =
-        c.listed_code-code.ensures ∙ ap coded c.list-listing.ensures.answer_value in
+    c.listed_code-code.result ≡ coded (erasures_report (card_of e a.card.now) (length a.out.now)) =
+    c.listed_code-code.ensures ∙ ap coded c.list-listing.ensures.answer_value in
     let l = c.list-listing in
-    rw (sym c.edition.ensures) (told, (l.ensures.out_after, l.ensures.vector_value ∙ written _ (erasures_fits _ _) _ (told) _ _ c.if-code-ne0.false))).0; out_after = (c.listed_code-code.result ≡ coded (erasures_report (card_of e a.card.now) (length a.out.now)) =
-        c.listed_code-code.ensures ∙ ap coded c.list-listing.ensures.answer_value in
-    let l = c.list-listing in
-    rw (sym c.edition.ensures) (told, (l.ensures.out_after, l.ensures.vector_value ∙ written _ (erasures_fits _ _) _ (told) _ _ c.if-code-ne0.false))).1.0; vector_after = (c.listed_code-code.result ≡ coded (erasures_report (card_of e a.card.now) (length a.out.now)) =
-        c.listed_code-code.ensures ∙ ap coded c.list-listing.ensures.answer_value in
-    let l = c.list-listing in
-    rw (sym c.edition.ensures) (told, (l.ensures.out_after, l.ensures.vector_value ∙ written _ (erasures_fits _ _) _ (told) _ _ c.if-code-ne0.false))).1.1 }
+    record { value = rw (sym c.edition.ensures) (told); out_after = rw (sym c.edition.ensures) (l.ensures.out_after); vector_after = rw (sym c.edition.ensures) (l.ensures.vector_value ∙ written _ (erasures_fits _ _) _ (told) _ _ c.if-code-ne0.false) }

@@ -1,6 +1,5 @@
 -- `bridgecrumb::bridgecrumb_verdict` meets its contract. Assumes nothing.
 use mathlib.Core.Path.{sym, ap, ◌∙◌}
-use borrow.Author.Rules.{rules}
 use Rattle.export_bounds.specs.Coded.{coded}
 use Rattle.export_bounds.proofs.Values.{verdict_fits}
 use Rattle.bridgecrumb.proofs.bridgecrumb_verdict.Goals as goal

@@ -1,6 +1,5 @@
 -- `bridgecrumb::cards::bridgecrumb_alike` meets its contract. Assumes nothing.
 use mathlib.Core.Path.{sym, ap, ◌∙◌}
-use borrow.Author.Rules.{rules}
 use Rattle.export_bounds.specs.Coded.{coded}
 use Rattle.export_bounds.proofs.Values.{alike_fits}
 use Rattle.bridgecrumb.proofs.cards.bridgecrumb_alike.Goals as goal

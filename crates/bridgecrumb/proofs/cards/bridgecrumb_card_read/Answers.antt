@@ -2,7 +2,6 @@
 -- Assumes nothing.
 use mathlib.Core.Path.{◌≡◌, sym, ap, ◌∙◌}
 use mathlib.Core.List.{[], ◌∷◌}
-use borrow.Author.Rules.{rules}
 use Rattle.flat.specs.Cards.{Card, card_of}
 use Rattle.flat.specs.Faults.{accepted, unless_refused, card_report}
 use Rattle.card.specs.Reports.{fault_report, report as check_report}
@@ -15,79 +14,36 @@ use Rattle.bridgecrumb.proofs.cards.bridgecrumb_card_read.Goals as goal
 pub fault_code-requires : goal.fault_code-requires
 fault_code-requires c =
     let cardAt : Card =
-        card_of c.edition.result c.args.card.now in
+    card_of c.edition.result c.args.card.now in
     let bad : fault_report c.in-Bad.fault ≡ card_report (cardAt) =
-        ap check_report (sym c.in-Bad.is) ∙ c.read-read.ensures.check_value in
+    ap check_report (sym c.in-Bad.is) ∙ c.read-read.ensures.check_value in
     rw (bad) (card_fits _)
 
 pub returns-in-Good : goal.returns-in-Good
 returns-in-Good c =
-    record { value = (let cardAt : Card =
-        card_of c.edition.result c.args.card.now in
+    let cardAt : Card =
+    card_of c.edition.result c.args.card.now in
     let good : accepted (c.in-Good.k ∷ c.in-Good.m ∷ []) ≡ card_report (cardAt) =
-        ap check_report (sym c.in-Good.is) ∙ c.read-read.ensures.check_value in
-    let v = c.read-read.ensures.1 in
+    ap check_report (sym c.in-Good.is) ∙ c.read-read.ensures.check_value in
+    let v = c.read-read.ensures in
     let p = read _ _ _ _ _ (good) in
     let q = read _ _ [] _ _ (good) in
-    rw (sym c.edition.ensures, v.0, v.1) (p.0, (p.1.0, (p.1.1, q.1.1)))).0; counts_after = (let cardAt : Card =
-        card_of c.edition.result c.args.card.now in
-    let good : accepted (c.in-Good.k ∷ c.in-Good.m ∷ []) ≡ card_report (cardAt) =
-        ap check_report (sym c.in-Good.is) ∙ c.read-read.ensures.check_value in
-    let v = c.read-read.ensures.1 in
-    let p = read _ _ _ _ _ (good) in
-    let q = read _ _ [] _ _ (good) in
-    rw (sym c.edition.ensures, v.0, v.1) (p.0, (p.1.0, (p.1.1, q.1.1)))).1.0; columns_after = (let cardAt : Card =
-        card_of c.edition.result c.args.card.now in
-    let good : accepted (c.in-Good.k ∷ c.in-Good.m ∷ []) ≡ card_report (cardAt) =
-        ap check_report (sym c.in-Good.is) ∙ c.read-read.ensures.check_value in
-    let v = c.read-read.ensures.1 in
-    let p = read _ _ _ _ _ (good) in
-    let q = read _ _ [] _ _ (good) in
-    rw (sym c.edition.ensures, v.0, v.1) (p.0, (p.1.0, (p.1.1, q.1.1)))).1.1.0; wears_after = (let cardAt : Card =
-        card_of c.edition.result c.args.card.now in
-    let good : accepted (c.in-Good.k ∷ c.in-Good.m ∷ []) ≡ card_report (cardAt) =
-        ap check_report (sym c.in-Good.is) ∙ c.read-read.ensures.check_value in
-    let v = c.read-read.ensures.1 in
-    let p = read _ _ _ _ _ (good) in
-    let q = read _ _ [] _ _ (good) in
-    rw (sym c.edition.ensures, v.0, v.1) (p.0, (p.1.0, (p.1.1, q.1.1)))).1.1.1 }
+    record {
+      value = rw (sym c.edition.ensures) p.0;
+      counts_after = rw (sym c.edition.ensures) p.1.0;
+      columns_after = rw (sym c.edition.ensures, v.columns_value) p.1.1;
+      wears_after = rw (sym c.edition.ensures, v.wears_value) q.1.1;
+    }
 
 pub returns-in-Bad : goal.returns-in-Bad
 returns-in-Bad c =
-    record { value = (let cardAt : Card =
-        card_of c.edition.result c.args.card.now in
+    let cardAt : Card =
+    card_of c.edition.result c.args.card.now in
     let bad : fault_report c.in-Bad.fault ≡ card_report (cardAt) =
-        ap check_report (sym c.in-Bad.is) ∙ c.read-read.ensures.check_value in
+    ap check_report (sym c.in-Bad.is) ∙ c.read-read.ensures.check_value in
     let e = bad in
     let refuses : (A : Type 0) (a b : A) → unless_refused (card_report (cardAt)) a b ≡ b = λ A a b. unless_fault c.in-Bad.fault _ a b e in
     let code = c.fault_code.ensures ∙ ap coded e in
     let p = unread _ _ _ _ _ code refuses in
     let q = unread _ _ [] _ _ code refuses in
-    rw (sym c.edition.ensures) (p.0, (p.1.0, (p.1.1, q.1.1)))).0; counts_after = (let cardAt : Card =
-        card_of c.edition.result c.args.card.now in
-    let bad : fault_report c.in-Bad.fault ≡ card_report (cardAt) =
-        ap check_report (sym c.in-Bad.is) ∙ c.read-read.ensures.check_value in
-    let e = bad in
-    let refuses : (A : Type 0) (a b : A) → unless_refused (card_report (cardAt)) a b ≡ b = λ A a b. unless_fault c.in-Bad.fault _ a b e in
-    let code = c.fault_code.ensures ∙ ap coded e in
-    let p = unread _ _ _ _ _ code refuses in
-    let q = unread _ _ [] _ _ code refuses in
-    rw (sym c.edition.ensures) (p.0, (p.1.0, (p.1.1, q.1.1)))).1.0; columns_after = (let cardAt : Card =
-        card_of c.edition.result c.args.card.now in
-    let bad : fault_report c.in-Bad.fault ≡ card_report (cardAt) =
-        ap check_report (sym c.in-Bad.is) ∙ c.read-read.ensures.check_value in
-    let e = bad in
-    let refuses : (A : Type 0) (a b : A) → unless_refused (card_report (cardAt)) a b ≡ b = λ A a b. unless_fault c.in-Bad.fault _ a b e in
-    let code = c.fault_code.ensures ∙ ap coded e in
-    let p = unread _ _ _ _ _ code refuses in
-    let q = unread _ _ [] _ _ code refuses in
-    rw (sym c.edition.ensures) (p.0, (p.1.0, (p.1.1, q.1.1)))).1.1.0; wears_after = (let cardAt : Card =
-        card_of c.edition.result c.args.card.now in
-    let bad : fault_report c.in-Bad.fault ≡ card_report (cardAt) =
-        ap check_report (sym c.in-Bad.is) ∙ c.read-read.ensures.check_value in
-    let e = bad in
-    let refuses : (A : Type 0) (a b : A) → unless_refused (card_report (cardAt)) a b ≡ b = λ A a b. unless_fault c.in-Bad.fault _ a b e in
-    let code = c.fault_code.ensures ∙ ap coded e in
-    let p = unread _ _ _ _ _ code refuses in
-    let q = unread _ _ [] _ _ code refuses in
-    rw (sym c.edition.ensures) (p.0, (p.1.0, (p.1.1, q.1.1)))).1.1.1 }
+    record { value = rw (sym c.edition.ensures) (p.0); counts_after = rw (sym c.edition.ensures) (p.1.0); columns_after = rw (sym c.edition.ensures) (p.1.1); wears_after = rw (sym c.edition.ensures) (q.1.1) }

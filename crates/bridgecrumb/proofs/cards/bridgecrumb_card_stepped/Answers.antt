@@ -1,6 +1,5 @@
 -- `bridgecrumb::cards::bridgecrumb_card_stepped` meets its contract. Assumes nothing.
 use mathlib.Core.Path.{ap, ◌∙◌}
-use borrow.Author.Rules.{rules}
 use Rattle.export_bounds.specs.Coded.{coded}
 use Rattle.bridgecrumb.proofs.cards.bridgecrumb_card_stepped.Goals as goal
 

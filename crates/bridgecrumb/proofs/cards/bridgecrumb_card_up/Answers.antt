@@ -2,7 +2,6 @@
 use mathlib.Core.Path.{ap, ◌∙◌}
 use Rattle.export_bounds.specs.Coded.{coded}
 use Rattle.export_bounds.proofs.EditionValues.{up_fits}
-use borrow.Author.Rules.{rules}
 use Rattle.bridgecrumb.proofs.cards.bridgecrumb_card_up.Goals as goal
 
 pub converted_code-requires : goal.converted_code-requires

@@ -3,7 +3,6 @@
 use mathlib.Core.Path.{◌≡◌, sym, ap, ap₂, ◌∙◌}
 use mathlib.Core.List.{[], ◌∷◌}
 use Prim.Native.Nat.{ℕ}
-use borrow.Author.Rules.{rules}
 use Rattle.record_format.specs.Faults.{body_report}
 use Rattle.export_bounds.specs.Coded.{coded}
 use Rattle.export_bounds.proofs.RecordValues.{body_fits}
@@ -17,14 +16,17 @@ pub returns-then-code-ne0 : goal.returns-then-code-ne0
 returns-then-code-ne0 c =
     let told : let a = c.args in
     c.there_code-code.result ≡ coded (body_report a.file.now a.disk) =
-        c.there_code-code.ensures ∙ ap coded c.body_place-found.ensures.check_value in
+    c.there_code-code.ensures ∙ ap coded c.body_place-found.ensures.check_value in
     record { value = told; place_after = kept _ (body_fits _ _) _ (told) _ _ c.if-code-ne0.true }
 
 pub returns : goal.returns
 returns c =
     let told : let a = c.args in
     c.there_code-code.result ≡ coded (body_report a.file.now a.disk) =
-        c.there_code-code.ensures ∙ ap coded c.body_place-found.ensures.check_value in
+    c.there_code-code.ensures ∙ ap coded c.body_place-found.ensures.check_value in
     let b = c.body_place-found in
-    let left = c.if-code-ne0.false in record { value = told; place_after = ap₂ (λ (at len : ℕ). at ∷ len ∷ []) (b.ensures.at_value.0 ∙ sym (written _ (body_fits _ _) _ (told) _ _ left)) (b.ensures.at_value.1 ∙ sym (written _ (body_fits _ _) _ (told) _ _ left))
-          ∙ written _ (body_fits _ _) _ (told) _ _ left }
+    let left = c.if-code-ne0.false in record {
+      value = told;
+      place_after = ap₂ (λ (at len : ℕ). at ∷ len ∷ []) (b.ensures.at_value.0 ∙ sym (written _ (body_fits _ _) _ (told) _ _ left)) (b.ensures.at_value.1 ∙ sym (written _ (body_fits _ _) _ (told) _ _ left))
+          ∙ written _ (body_fits _ _) _ (told) _ _ left;
+    }

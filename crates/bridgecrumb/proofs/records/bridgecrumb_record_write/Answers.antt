@@ -1,6 +1,5 @@
 -- `bridgecrumb::records::bridgecrumb_record_write` meets its contract. Assumes nothing.
 use mathlib.Core.Path.{ap, ◌∙◌}
-use borrow.Author.Rules.{rules}
 use Rattle.export_bounds.specs.Coded.{coded}
 use Rattle.export_bounds.proofs.RecordValues.{record_write_fits}
 use Rattle.bridgecrumb.proofs.records.bridgecrumb_record_write.Goals as goal

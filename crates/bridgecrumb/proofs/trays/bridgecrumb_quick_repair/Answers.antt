@@ -1,6 +1,5 @@
 -- `bridgecrumb::trays::bridgecrumb_quick_repair` meets its contract: what is left of the sets is written where the tray is. Assumes nothing.
 use mathlib.Core.Path.{◌≡◌, sym, ap, ◌∙◌}
-use borrow.Author.Rules.{rules}
 use Rattle.peeling.specs.Faults.{tray_report}
 use Rattle.flat.specs.Cards.{card_of}
 use Rattle.export_bounds.specs.Coded.{coded}
@@ -15,30 +14,16 @@ pub returns-then-code-ne0 : goal.returns-then-code-ne0
 returns-then-code-ne0 c =
     let told : let a = c.args in
     let e = c.edition.result in
-
-    record { value = (c.repaired_code-code.result ≡ coded (tray_report (card_of e a.card.now) a.l a.budget a.sets.now a.tray.now) =
-        c.repaired_code-code.ensures ∙ ap coded c.repair-repair.ensures.answer_value in
+    c.repaired_code-code.result ≡ coded (tray_report (card_of e a.card.now) a.l a.budget a.sets.now a.tray.now) =
+    c.repaired_code-code.ensures ∙ ap coded c.repair-repair.ensures.answer_value in
     let l = c.repair-repair in
-    rw (sym c.edition.ensures) (told, (l.ensures.tray_after, kept _ (tray_fits _ _ _ _ _) _ (told) _ _ c.if-code-ne0.true))).0; tray_after = (c.repaired_code-code.result ≡ coded (tray_report (card_of e a.card.now) a.l a.budget a.sets.now a.tray.now) =
-        c.repaired_code-code.ensures ∙ ap coded c.repair-repair.ensures.answer_value in
-    let l = c.repair-repair in
-    rw (sym c.edition.ensures) (told, (l.ensures.tray_after, kept _ (tray_fits _ _ _ _ _) _ (told) _ _ c.if-code-ne0.true))).1.0; left_after = (c.repaired_code-code.result ≡ coded (tray_report (card_of e a.card.now) a.l a.budget a.sets.now a.tray.now) =
-        c.repaired_code-code.ensures ∙ ap coded c.repair-repair.ensures.answer_value in
-    let l = c.repair-repair in
-    rw (sym c.edition.ensures) (told, (l.ensures.tray_after, kept _ (tray_fits _ _ _ _ _) _ (told) _ _ c.if-code-ne0.true))).1.1 }
+    record { value = rw (sym c.edition.ensures) (told); tray_after = rw (sym c.edition.ensures) (l.ensures.tray_after); left_after = rw (sym c.edition.ensures) (kept _ (tray_fits _ _ _ _ _) _ (told) _ _ c.if-code-ne0.true) }
 
 pub returns : goal.returns
 returns c =
     let told : let a = c.args in
     let e = c.edition.result in
-
-    record { value = (c.repaired_code-code.result ≡ coded (tray_report (card_of e a.card.now) a.l a.budget a.sets.now a.tray.now) =
-        c.repaired_code-code.ensures ∙ ap coded c.repair-repair.ensures.answer_value in
+    c.repaired_code-code.result ≡ coded (tray_report (card_of e a.card.now) a.l a.budget a.sets.now a.tray.now) =
+    c.repaired_code-code.ensures ∙ ap coded c.repair-repair.ensures.answer_value in
     let l = c.repair-repair in
-    rw (sym c.edition.ensures) (told, (l.ensures.tray_after, l.ensures.left_value ∙ written _ (tray_fits _ _ _ _ _) _ (told) _ _ c.if-code-ne0.false))).0; tray_after = (c.repaired_code-code.result ≡ coded (tray_report (card_of e a.card.now) a.l a.budget a.sets.now a.tray.now) =
-        c.repaired_code-code.ensures ∙ ap coded c.repair-repair.ensures.answer_value in
-    let l = c.repair-repair in
-    rw (sym c.edition.ensures) (told, (l.ensures.tray_after, l.ensures.left_value ∙ written _ (tray_fits _ _ _ _ _) _ (told) _ _ c.if-code-ne0.false))).1.0; left_after = (c.repaired_code-code.result ≡ coded (tray_report (card_of e a.card.now) a.l a.budget a.sets.now a.tray.now) =
-        c.repaired_code-code.ensures ∙ ap coded c.repair-repair.ensures.answer_value in
-    let l = c.repair-repair in
-    rw (sym c.edition.ensures) (told, (l.ensures.tray_after, l.ensures.left_value ∙ written _ (tray_fits _ _ _ _ _) _ (told) _ _ c.if-code-ne0.false))).1.1 }
+    record { value = rw (sym c.edition.ensures) (told); tray_after = rw (sym c.edition.ensures) (l.ensures.tray_after); left_after = rw (sym c.edition.ensures) (l.ensures.left_value ∙ written _ (tray_fits _ _ _ _ _) _ (told) _ _ c.if-code-ne0.false) }

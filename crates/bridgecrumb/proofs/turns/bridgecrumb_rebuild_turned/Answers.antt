@@ -1,6 +1,5 @@
 -- `bridgecrumb::turns::bridgecrumb_rebuild_turned` meets its contract. Assumes nothing.
 use mathlib.Core.Path.{sym, ap, ◌∙◌}
-use borrow.Author.Rules.{rules}
 use Rattle.export_bounds.specs.Coded.{coded}
 use Rattle.export_bounds.proofs.TurnValues.{turned_fits}
 use Rattle.bridgecrumb.proofs.turns.bridgecrumb_rebuild_turned.Goals as goal
@@ -11,5 +10,4 @@ rebuilt_code-requires c = rw c.rebuild.ensures.result_value (turned_fits _ _ _ _
 pub returns : goal.returns
 returns c =
     let l = c.rebuild in
-
-    record { value = (rw (sym c.edition.ensures) (c.rebuilt_code.ensures ∙ ap coded l.ensures.result_value, l.ensures.stripe_after)).0; stripe_after = (rw (sym c.edition.ensures) (c.rebuilt_code.ensures ∙ ap coded l.ensures.result_value, l.ensures.stripe_after)).1 }
+    record { value = rw (sym c.edition.ensures) (c.rebuilt_code.ensures ∙ ap coded l.ensures.result_value); stripe_after = rw (sym c.edition.ensures) (l.ensures.stripe_after) }

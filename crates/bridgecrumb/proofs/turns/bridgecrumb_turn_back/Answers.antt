@@ -1,6 +1,5 @@
 -- `bridgecrumb::turns::bridgecrumb_turn_back` meets its contract. Assumes nothing.
 use mathlib.Core.Path.{sym, ap, ◌∙◌}
-use borrow.Author.Rules.{rules}
 use Rattle.export_bounds.specs.Coded.{coded}
 use Rattle.export_bounds.proofs.TurnValues.{turn_fits}
 use Rattle.bridgecrumb.proofs.turns.bridgecrumb_turn_back.Goals as goal
@@ -11,5 +10,4 @@ turned_code-requires c = rw c.turn_back.ensures.result_value (turn_fits _ _ _ _)
 pub returns : goal.returns
 returns c =
     let l = c.turn_back in
-
-    record { value = (rw (sym c.edition.ensures) (c.turned_code.ensures ∙ ap coded l.ensures.result_value, l.ensures.out_after)).0; out_after = (rw (sym c.edition.ensures) (c.turned_code.ensures ∙ ap coded l.ensures.result_value, l.ensures.out_after)).1 }
+    record { value = rw (sym c.edition.ensures) (c.turned_code.ensures ∙ ap coded l.ensures.result_value); out_after = rw (sym c.edition.ensures) (l.ensures.out_after) }
