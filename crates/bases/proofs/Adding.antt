@@ -10,7 +10,7 @@ use native.Mathlib.Omega.{arith}
 use borrow.Author.Tests.{lt-ltb, le-ltb, ne_eqb}
 use lib.Dec.{ltb, eqb}
 use lib.Pow.{pow-lt, pow_mono}
-use Rattle.gf2.specs.If.{if◌then◌else◌}
+use Rattle.std.specs.Prelude.{if◌then◌else◌}
 use Rattle.gf2.specs.Sets.{bit, has, ◌⊕◌}
 use Rattle.gf2.proofs.Bits.{ext_below, bit-pow, bit_above, bit-⊕_bits}
 use Rattle.gf2.proofs.Tests.{below_or}

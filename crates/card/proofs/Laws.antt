@@ -8,7 +8,7 @@ use native.Mathlib.Omega.{arith}
 use borrow.Author.Tests.{lt-ltb}
 use lib.Dec.{eqb}
 use lib.ListN.{get_or, replicate}
-use Rattle.gf2.specs.If.{if◌then◌else◌}
+use Rattle.std.specs.Prelude.{if◌then◌else◌}
 use Rattle.flat.specs.Lists.{padded}
 use Rattle.flat.specs.Cards.{Code, count_ok, first_bad, Card, code_of, wears_of}
 use Rattle.flat.specs.Faults.{Report, refused, unless_refused, code_report, card_report, card_columns, card_wears}

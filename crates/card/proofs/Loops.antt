@@ -10,7 +10,7 @@ use native.Mathlib.Omega.{arith}
 use borrow.Author.Tests.{ne_eqb}
 use lib.ListN.{length, get_or, drop, set, replicate}
 use lib.Seq.{drop-cons, drop-length}
-use Rattle.gf2.specs.If.{if◌then◌else◌}
+use Rattle.std.specs.Prelude.{if◌then◌else◌}
 use Rattle.flat.specs.Lists.{tabulate, member, padded, field}
 use Rattle.flat.specs.Cards.{column_ok, first_bad, columns_in}
 use Rattle.flat.proofs.Lists.{constant, entries, fill_none, fill_more}

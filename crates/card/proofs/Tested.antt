@@ -10,7 +10,7 @@ use borrow.Author.Tests.{lt-ltb, le-ltb, eq-eqb, ne_eqb}
 use lib.Dec.{eqb}
 use lib.ListN.{length, get_or, drop, length-drop}
 use lib.Seq.{length-take-le}
-use Rattle.gf2.specs.If.{if◌then◌else◌}
+use Rattle.std.specs.Prelude.{if◌then◌else◌}
 use Rattle.flat.specs.declared.Edition.{Edition}
 use Rattle.flat.specs.Lists.{member}
 use Rattle.flat.specs.Cards.{Code, code, count_ok, first_bad, columns_in, code_in, Card, card_of, edition_length, wear_count, start, first_byte_ok, data_count, parity_count, column_bytes, code_of, disks, wears_of}

@@ -8,7 +8,7 @@ use Prim.Native.Nat.{ℕ, ◌+◌, ◌≤◌, ◌<◌}
 use borrow.Author.Tests.{eq-eqb, ne_eqb}
 use lib.Dec.{eqb}
 use lib.ListN.{length}
-use Rattle.gf2.specs.If.{if◌then◌else◌}
+use Rattle.std.specs.Prelude.{if◌then◌else◌}
 use Rattle.flat.specs.declared.Edition.{Edition}
 use Rattle.flat.specs.Lists.{member}
 use Rattle.flat.specs.Cards.{Code, code, count_ok, first_bad, edition_length, wear_count, disks}

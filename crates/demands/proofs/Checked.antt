@@ -10,7 +10,7 @@ use lib.Dec.{T}
 use lib.ListN.{length, get_or, take}
 use lib.Pow.{pow_pos}
 use lib.Seq.{ext_get_or, length-take-le}
-use Rattle.gf2.specs.If.{if◌then◌else◌}
+use Rattle.std.specs.Prelude.{if◌then◌else◌}
 use Rattle.gf2.specs.Sets.{has, size}
 use Rattle.gf2.proofs.Tests.{if_false, ltb_in}
 use Rattle.gf2.proofs.Bits.{no_disk}

@@ -1,7 +1,6 @@
 -- Document 02, request [10]: the converter between the editions. It goes up always, and down only when all wear is 1.
 -- Assumes nothing.
-use Rattle.std.specs.Prelude.{Bool, true, not, ◌&&◌, List, [], ◌∷◌, ℕ, eqb, length}
-use Rattle.gf2.specs.If.{if◌then◌else◌}
+use Rattle.std.specs.Prelude.{Bool, true, not, ◌&&◌, List, [], ◌∷◌, ℕ, eqb, length, if◌then◌else◌}
 use Rattle.flat.specs.declared.Edition.TheVariants.{First, Second}
 use Rattle.flat.specs.Cards.{Code, edition_one, edition_two, edition_bytes, edition_length, code_of, wears_of}
 use Rattle.flat.specs.Faults.{Report, accepted, refused, unless_refused, with_card}

@@ -1,8 +1,7 @@
 -- What holds of cards of two editions, in plain words above each. That the card writer's cards are read back, and that an accepted card is one
 -- that it writes, is said of both editions in flat/specs/Theorems.antt. The proofs are those of proofs/Theorems.antt.
 -- Assumes nothing.
-use Rattle.std.specs.Prelude.{◌≡◌, ◌≢◌, not, ◌&&◌, List, [], ◌∷◌, ◌++◌, ℕ, ◌+◌, ◌*◌, ◌≤◌, ◌<◌, eqb, ltb, length, get_or, replicate}
-use Rattle.gf2.specs.If.{if◌then◌else◌}
+use Rattle.std.specs.Prelude.{◌≡◌, ◌≢◌, not, ◌&&◌, List, [], ◌∷◌, ◌++◌, ℕ, ◌+◌, ◌*◌, ◌≤◌, ◌<◌, eqb, ltb, length, get_or, replicate, if◌then◌else◌}
 use Rattle.flat.specs.declared.Edition.TheVariants.{First, Second}
 use Rattle.flat.specs.Lists.{Bytes, member}
 use Rattle.flat.specs.Cards.{Code, card_length, card_bytes, Card, edition_one, edition_two, edition_length, code_of, disks, wears_of}

@@ -7,7 +7,7 @@ use Prim.Native.Nat.{ℕ, suc, ◌+◌, ◌*◌}
 use borrow.Author.Tests.{eq-eqb, ne_eqb}
 use lib.Dec.{eqb}
 use lib.ListN.{length}
-use Rattle.gf2.specs.If.{if◌then◌else◌}
+use Rattle.std.specs.Prelude.{if◌then◌else◌}
 use Rattle.flat.specs.Cards.{Code, Card, code_of, disks, column_bytes, code_in}
 use Rattle.flat.specs.Strips.{length_ok, encoded}
 use Rattle.flat.specs.Faults.{accepted, refused, card_report, encode_tests, encode_report, encode_stripe}

@@ -4,7 +4,7 @@ use mathlib.Core.Path.{◌≡◌, refl}
 use Prim.Native.Nat.{ℕ, zero, suc, ◌+◌, ◌*◌, ◌/◌, ◌%◌, ◌<◌}
 use native.Mathlib.Omega.{arith}
 use lib.Dec.{eqb, eqb-suc-zero}
-use Rattle.gf2.specs.If.{if◌then◌else◌}
+use Rattle.std.specs.Prelude.{if◌then◌else◌}
 use Rattle.flat.specs.Faults.{unless_refused}
 use Rattle.export_bounds.specs.Coded.{value, coded_fault}
 use Rattle.export_bounds.specs.Theorems.{CodedDecodes, FaultDecodes, EditionNamed, ReportsFit}

@@ -9,7 +9,7 @@ use native.Mathlib.Omega.{arith}
 use lib.Dec.{T, eqb}
 use lib.ListN.{get_or}
 use lib.Seq.{ext_get_or}
-use Rattle.gf2.specs.If.{if◌then◌else◌}
+use Rattle.std.specs.Prelude.{if◌then◌else◌}
 use Rattle.gf2.specs.Sets.{has, ◌⊆◌, over}
 use Rattle.gf2.proofs.Tests.{dec, eqb_in, eqb_out, unless_in, unless_out}
 use Rattle.gf2.proofs.Subsets.{⊆_out, ⊆-refl}

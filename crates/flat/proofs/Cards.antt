@@ -9,7 +9,7 @@ use native.Mathlib.Omega.{arith}
 use borrow.Author.Tests.{ltb-false, not-false, le-ltb}
 use lib.Dec.{leb, ltb}
 use lib.ListN.{length, get_or}
-use Rattle.gf2.specs.If.{if◌then◌else◌}
+use Rattle.std.specs.Prelude.{if◌then◌else◌}
 use Rattle.gf2.proofs.Tests.{true-T, and_out, ltb_out, leb_out}
 use Rattle.flat.specs.Lists.{Bytes, tabulate, each, bytes, field}
 use Rattle.flat.specs.Cards.{Code, count_ok, column_ok, first_bad, columns_in}

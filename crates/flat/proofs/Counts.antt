@@ -8,7 +8,7 @@ use native.Mathlib.Nat.{le_refl, add-zero}
 use native.Mathlib.Omega.{arith}
 use lib.Count.{ones, ones_cat}
 use lib.Dec.{T, eqb}
-use Rattle.gf2.specs.If.{if◌then◌else◌}
+use Rattle.std.specs.Prelude.{if◌then◌else◌}
 use Rattle.gf2.specs.Sets.{has, size, ◌∩◌, ◌⊕◌, over}
 use Rattle.gf2.proofs.Tests.{T-ext, and_in, and_out, eqb_in, eqb_out, below_suc, if_true, if_false}
 use Rattle.gf2.proofs.Xor.{⊕-zero}

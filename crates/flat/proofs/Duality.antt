@@ -6,7 +6,7 @@ use mathlib.Core.Logic.{◌⊎◌, inl, inr, ◌≢◌, ◌↔◌, ⊎_elim}
 use Prim.Native.Nat.{ℕ, ◌^◌, ◌≤◌, ◌<◌}
 use lib.Dec.{T, eqb}
 use lib.Pow.{pow_pos}
-use Rattle.gf2.specs.If.{if◌then◌else◌}
+use Rattle.std.specs.Prelude.{if◌then◌else◌}
 use Rattle.gf2.specs.Sets.{bit, has, ◌⊕◌, ◌⊆◌, ◌∖◌, over}
 use Rattle.gf2.specs.Span.{InSpan}
 use Rattle.gf2.specs.Within.{lowest}

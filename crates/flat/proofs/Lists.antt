@@ -12,7 +12,7 @@ use borrow.Author.Tests.{lt-ltb, le-ltb}
 use lib.Dec.{ltb}
 use lib.ListN.{length, get_or, take, drop, set, replicate, length-append, length-drop, length-replicate, length-take, drop_of_length-le, get_or-append, get_or-eq_default}
 use lib.Seq.{take_at, set_at, append_snoc, get_or-append-add, ext_get_or, get_or-take, get_or-drop, length-take-le, drop-append-add, drop-drop, paste, paste-zero, take_all}
-use Rattle.gf2.specs.If.{if◌then◌else◌}
+use Rattle.std.specs.Prelude.{if◌then◌else◌}
 use Rattle.gf2.proofs.Tests.{below_or}
 use Rattle.flat.specs.Lists.{range, tabulate, padded, put, field, Bytes}
 

@@ -9,7 +9,7 @@ use native.Mathlib.Omega.{arith}
 use lib.Arith.{lt_of_le-ne}
 use lib.Dec.{T, eqb, eqb_refl}
 use lib.ListN.{length, get_or}
-use Rattle.gf2.specs.If.{if◌then◌else◌}
+use Rattle.std.specs.Prelude.{if◌then◌else◌}
 use Rattle.gf2.proofs.Tests.{dec, eqb_in, eqb_out, unless_in, unless_out}
 use Rattle.flat.specs.Lists.{member, range, filter, each, ordered_by}
 

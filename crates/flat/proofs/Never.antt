@@ -7,7 +7,7 @@ use Prim.Native.Nat.{ℕ, ◌+◌, ◌*◌, ◌<◌}
 use native.Mathlib.Omega.{arith}
 use lib.Dec.{eqb, ltb}
 use lib.ListN.{length}
-use Rattle.gf2.specs.If.{if◌then◌else◌}
+use Rattle.std.specs.Prelude.{if◌then◌else◌}
 use Rattle.flat.specs.Lists.{member}
 use Rattle.flat.specs.Cards.{Code, Card, code_of, disks, set_ok, count_ok, first_bad, edition_length, start, first_byte_ok, wears_of}
 use Rattle.flat.specs.Strips.{length_ok}

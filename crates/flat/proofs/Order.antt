@@ -8,7 +8,7 @@ use Prim.Native.Nat.{ℕ, zero, suc, ◌<◌}
 use native.Mathlib.Omega.{arith}
 use lib.Dec.{eqb}
 use lib.ListN.{length, get_or}
-use Rattle.gf2.specs.If.{if◌then◌else◌}
+use Rattle.std.specs.Prelude.{if◌then◌else◌}
 use Rattle.gf2.proofs.Tests.{eqb_out}
 use Rattle.flat.specs.Lists.{range, filter, each, ordered_by}
 use Rattle.flat.proofs.Members.{In, in_head, in_tail, in_cons, in_nil, in_at, in_place, in_append, each_out, range_out, filter_out, map_out}

@@ -7,7 +7,7 @@ use Prim.Native.Nat.{ℕ, zero, suc, ◌+◌, ◌<◌}
 use native.Mathlib.Nat.{add_comm, add_assoc}
 use native.Mathlib.Omega.{arith}
 use lib.Dec.{eqb}
-use Rattle.gf2.specs.If.{if◌then◌else◌}
+use Rattle.std.specs.Prelude.{if◌then◌else◌}
 use Rattle.gf2.specs.Sets.{has, ◌⊕◌, over}
 use Rattle.gf2.proofs.Tests.{dec, eqb_in, eqb_out, if_true, if_false, below_suc}
 use Rattle.gf2.proofs.Xor.{⊕_comm, ⊕_assoc}

@@ -9,7 +9,7 @@ use native.Mathlib.Omega.{arith}
 use lib.Arith.{digits_div}
 use lib.Dec.{T}
 use lib.ListN.{length, get_or}
-use Rattle.gf2.specs.If.{if◌then◌else◌}
+use Rattle.std.specs.Prelude.{if◌then◌else◌}
 use Rattle.gf2.specs.Sets.{has}
 use Rattle.gf2.proofs.Tests.{false-T, T-ext, if_true, if_false}
 use Rattle.flat.specs.Cards.{Code, Card, code_of, disks, set_ok}

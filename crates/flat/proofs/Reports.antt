@@ -11,7 +11,7 @@ use borrow.Author.Tests.{lt-ltb, le-ltb, eqb-true, eqb-false}
 use lib.Dec.{T, eqb}
 use lib.ListN.{length, get_or, take, drop}
 use lib.Seq.{take_at}
-use Rattle.gf2.specs.If.{if◌then◌else◌}
+use Rattle.std.specs.Prelude.{if◌then◌else◌}
 use Rattle.gf2.proofs.Tests.{dec, T_false, eqb_in, eqb_out, below_or}
 use Rattle.flat.specs.Cards.{Code, Card, code_of}
 use Rattle.flat.specs.Faults.{Report, accepted, refused, unless_refused, card_report, with_card, list_report, list_slice}

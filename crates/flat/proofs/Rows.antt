@@ -10,7 +10,7 @@ use borrow.Author.Tests.{eq-eqb, ne_eqb, lt-ltb, le-ltb}
 use lib.Dec.{T, ltb, eqb}
 use lib.ListN.{length, get_or}
 use lib.Pow.{pow_pos, pow-lt, shr_lt, split}
-use Rattle.gf2.specs.If.{if◌then◌else◌}
+use Rattle.std.specs.Prelude.{if◌then◌else◌}
 use Rattle.gf2.specs.Sets.{bit, has, ◌⊕◌, over}
 use Rattle.gf2.specs.Span.{InSpan, Independent, select}
 use Rattle.gf2.proofs.Tests.{T-ext, ltb_out, eqb_in, eqb_out}

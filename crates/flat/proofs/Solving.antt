@@ -7,7 +7,7 @@ use Prim.Native.Nat.{ℕ, zero, suc, ◌^◌, ◌≤◌, ◌<◌}
 use native.Mathlib.Nat.{not-suc-le-zero, lt_irrefl}
 use native.Mathlib.Omega.{arith}
 use lib.Dec.{T, eqb, ltb}
-use Rattle.gf2.specs.If.{if◌then◌else◌}
+use Rattle.std.specs.Prelude.{if◌then◌else◌}
 use Rattle.gf2.specs.Sets.{bit, has, ◌⊕◌, ◌⊆◌, over}
 use Rattle.gf2.specs.Span.{InSpan}
 use Rattle.gf2.proofs.Tests.{dec, and_in, and_out, not_in, not_out, ltb_in, ltb_out, below_suc}

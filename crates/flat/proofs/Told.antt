@@ -7,7 +7,7 @@ use mathlib.Core.List.{List, [], ◌∷◌}
 use Prim.Native.Nat.{ℕ, ◌^◌, ◌<◌}
 use native.Mathlib.Nat.{lt_of_le_of_lt}
 use lib.Dec.{T}
-use Rattle.gf2.specs.If.{if◌then◌else◌}
+use Rattle.std.specs.Prelude.{if◌then◌else◌}
 use Rattle.gf2.specs.Sets.{bit, has, ◌⊕◌, ◌⊆◌, ◌∖◌, over}
 use Rattle.gf2.specs.Span.{InSpan}
 use Rattle.gf2.specs.Within.{within}

@@ -8,7 +8,7 @@ use native.Mathlib.Nat.{lt_of_le_of_lt}
 use borrow.Author.Tests.{not-false, lt-ltb}
 use lib.Dec.{T, ltb}
 use lib.ListN.{length, take}
-use Rattle.gf2.specs.If.{if◌then◌else◌}
+use Rattle.std.specs.Prelude.{if◌then◌else◌}
 use Rattle.gf2.specs.Sets.{has}
 use Rattle.gf2.proofs.Tests.{T_true, true-T, ltb_out}
 use Rattle.gf2.proofs.Subsets.{⊆_trans, ⊆_le}

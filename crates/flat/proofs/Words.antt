@@ -8,7 +8,7 @@ use native.Mathlib.Omega.{arith}
 use borrow.Author.Tests.{lt-ltb, le-ltb}
 use lib.Dec.{eqb}
 use lib.Pow.{pow_pos}
-use Rattle.gf2.specs.If.{if◌then◌else◌}
+use Rattle.std.specs.Prelude.{if◌then◌else◌}
 use Rattle.gf2.specs.Sets.{bit, ◌⊕◌, over}
 use Rattle.gf2.proofs.Tests.{below_or}
 use Rattle.gf2.proofs.Bits.{bit_lt, two_cases, bit-⊕_bits, bit-of-zero, bit-mod, ext_below}

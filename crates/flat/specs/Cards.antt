@@ -2,8 +2,7 @@
 -- A code is a flat XOR erasure code. A column is a parity check's bitmap over the data disks. A card is the document's word for a
 -- code's description as bytes. Sets of disks, their bits and their size are those of gf2/specs/Sets.antt.
 -- Assumes nothing.
-use Rattle.std.specs.Prelude.{Bool, true, ◌&&◌, List, [], ◌∷◌, ◌++◌, ℕ, suc, ◌+◌, ◌*◌, ◌%◌, ◌^◌, leb, ltb, eqb, get_or, take, drop, replicate}
-use Rattle.gf2.specs.If.{if◌then◌else◌}
+use Rattle.std.specs.Prelude.{Bool, true, ◌&&◌, List, [], ◌∷◌, ◌++◌, ℕ, suc, ◌+◌, ◌*◌, ◌%◌, ◌^◌, leb, ltb, eqb, get_or, take, drop, replicate, if◌then◌else◌}
 use Rattle.flat.specs.declared.Edition.{Edition}
 use Rattle.flat.specs.declared.Edition.TheVariants.{First, Second}
 use Rattle.flat.specs.Lists.{tabulate, each, bytes, field}

@@ -1,7 +1,6 @@
 -- Which disks go with a data disk, and which with a parity disk, as document 02 speaks of them: the parities that name a disk, a check.
 -- Assumes nothing.
-use Rattle.std.specs.Prelude.{ℕ, ◌+◌, ◌-◌, eqb, ltb}
-use Rattle.gf2.specs.If.{if◌then◌else◌}
+use Rattle.std.specs.Prelude.{ℕ, ◌+◌, ◌-◌, eqb, ltb, if◌then◌else◌}
 use Rattle.gf2.specs.Sets.{has}
 use Rattle.flat.specs.Lists.{set_of}
 use Rattle.flat.specs.Cards.{Code, disks, column}

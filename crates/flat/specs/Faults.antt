@@ -2,8 +2,7 @@
 -- for every input.
 -- The tests of a call stand in the document's order.
 -- Assumes nothing.
-use Rattle.std.specs.Prelude.{Bool, not, ◌&&◌, List, [], ◌∷◌, ◌++◌, ℕ, ◌+◌, ◌*◌, eqb, ltb, length, drop}
-use Rattle.gf2.specs.If.{if◌then◌else◌}
+use Rattle.std.specs.Prelude.{Bool, not, ◌&&◌, List, [], ◌∷◌, ◌++◌, ℕ, ◌+◌, ◌*◌, eqb, ltb, length, drop, if◌then◌else◌}
 use Rattle.gf2.specs.Sets.{size}
 use Rattle.flat.specs.declared.Edition.{Edition}
 use Rattle.flat.specs.Lists.{member, padded}

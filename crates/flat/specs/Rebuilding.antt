@@ -1,8 +1,7 @@
 -- Document 01, "Rebuilding".
 -- A data content is a list of k * L bytes: the k data strips.
 -- Assumes nothing.
-use Rattle.std.specs.Prelude.{◌≡◌, Bool, ◌||◌, List, [], ◌∷◌, map, ℕ, zero, suc, ◌*◌, ◌/◌, T, eqb, length, get_or}
-use Rattle.gf2.specs.If.{if◌then◌else◌}
+use Rattle.std.specs.Prelude.{◌≡◌, Bool, ◌||◌, List, [], ◌∷◌, map, ℕ, zero, suc, ◌*◌, ◌/◌, T, eqb, length, get_or, if◌then◌else◌}
 use Rattle.gf2.specs.Sets.{has}
 use Rattle.flat.specs.Lists.{every, range, tabulate, filter, each, Bytes}
 use Rattle.flat.specs.Cards.{Code, disks}

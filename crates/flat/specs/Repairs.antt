@@ -1,8 +1,7 @@
 -- Strips computed from other strips: what the rebuild calls do, and how they decide. Nobody has to believe these: the theorems of Rebuilt
 -- say that they are document 01's rebuilding, and no public contract names them.
 -- Assumes nothing.
-use Rattle.std.specs.Prelude.{Bool, true, ◌&&◌, List, [], ◌∷◌, ℕ, ◌/◌, ◌%◌, ◌^◌, eqb, length, get_or}
-use Rattle.gf2.specs.If.{if◌then◌else◌}
+use Rattle.std.specs.Prelude.{Bool, true, ◌&&◌, List, [], ◌∷◌, ℕ, ◌/◌, ◌%◌, ◌^◌, eqb, length, get_or, if◌then◌else◌}
 use Rattle.gf2.specs.Sets.{has, ◌⊕◌, ◌∖◌, over}
 use Rattle.gf2.specs.Within.{within}
 use Rattle.flat.specs.Lists.{every, tabulate}

@@ -1,8 +1,7 @@
 -- Document 01, "Strips".
 -- A stripe is a list of n * L bytes: byte p is byte p % L of the strip of disk p / L.
 -- Assumes nothing.
-use Rattle.std.specs.Prelude.{Bool, ◌&&◌, List, ℕ, ◌+◌, ◌-◌, ◌*◌, ◌/◌, ◌%◌, leb, ltb, get_or, take}
-use Rattle.gf2.specs.If.{if◌then◌else◌}
+use Rattle.std.specs.Prelude.{Bool, ◌&&◌, List, ℕ, ◌+◌, ◌-◌, ◌*◌, ◌/◌, ◌%◌, leb, ltb, get_or, take, if◌then◌else◌}
 use Rattle.gf2.specs.Sets.{over}
 use Rattle.flat.specs.Lists.{tabulate}
 use Rattle.flat.specs.Cards.{Code, disks, column}

@@ -10,7 +10,7 @@ use lib.Arith.{lt-one}
 use lib.Bits.{bit_and, bit_xor, and_shr, and_mod, xor_shr, xor_mod, and_mask}
 use lib.Dec.{T, eqb, lit<}
 use lib.Pow.{pow_mono, shl_exact, shr-shr, field, mod-mod-pow}
-use Rattle.gf2.specs.If.{if◌then◌else◌}
+use Rattle.std.specs.Prelude.{if◌then◌else◌}
 use Rattle.gf2.specs.Sets.{bit, has, ◌∩◌, ◌⊕◌}
 use Rattle.gf2.proofs.Tests.{dec, eqb_in, eqb_out, T_true, T_false}
 

@@ -9,7 +9,7 @@ use lib.Bits.{bit_or, bit_xor}
 use lib.Dec.{T}
 use lib.ListN.{length, get_or, take, drop, set, drop_of_length-le}
 use lib.Seq.{drop-cons, get_or-take, length-take-le, take-suc-set, append_snoc}
-use Rattle.gf2.specs.If.{if◌then◌else◌}
+use Rattle.std.specs.Prelude.{if◌then◌else◌}
 use Rattle.gf2.specs.Sets.{has, ◌∖◌, ◌⊆◌, ◌∪◌, union, over}
 use Rattle.gf2.specs.Span.{select}
 use Rattle.gf2.specs.Within.{lowest, clear, within}

@@ -10,7 +10,7 @@ use native.Mathlib.Omega.{arith}
 use lib.Dec.{T}
 use lib.Pow.{pow_pos, pow_mono}
 use lib.Bits.{xor_disjoint, and_comm, and_shifted}
-use Rattle.gf2.specs.If.{if◌then◌else◌}
+use Rattle.std.specs.Prelude.{if◌then◌else◌}
 use Rattle.gf2.specs.Sets.{bit, has, first, set_of, ◌⊕◌, ◌∖◌}
 use Rattle.gf2.proofs.Tests.{T-ext, not_in, not_out, ltb_in, ltb_out, below_suc, below_or}
 use Rattle.gf2.proofs.Bits.{bit_lt, bit_above, bit-⊕, bit-pow-same, bit-pow_other, not-has, has_if, one_shifted_in}

@@ -10,7 +10,7 @@ use native.Mathlib.Omega.{arith}
 use lib.Dec.{T, eqb}
 use lib.ListN.{length, get_or}
 use lib.Pow.{pow_pos}
-use Rattle.gf2.specs.If.{if◌then◌else◌}
+use Rattle.std.specs.Prelude.{if◌then◌else◌}
 use Rattle.gf2.specs.Sets.{bit, has, ◌⊕◌, ◌∖◌, over}
 use Rattle.gf2.specs.Span.{InSpan, select}
 use Rattle.gf2.proofs.Tests.{dec, T_true, T_false, eqb_in, eqb_out, below_suc}

@@ -8,7 +8,7 @@ use native.Mathlib.Nat.{le-suc_iff}
 use native.Mathlib.Decide.{dec_lt}
 use native.Mathlib.Omega.{arith}
 use lib.Dec.{T, eqb, ltb, leb, eqb→eq, eqb_refl, ltb→lt, lt→ltb, leb→le, le→leb, T_not, not_T}
-use Rattle.gf2.specs.If.{if◌then◌else◌}
+use Rattle.std.specs.Prelude.{if◌then◌else◌}
 
 -- ---- a test and its value
 
@@ -101,7 +101,7 @@ below_or i n = elim (dec_lt i n) [ yes h ↦ inl h | no h ↦ inr (omega arith) 
 
 -- ---- a choice
 
-module _ {ℓ} {A : Type ℓ} where
+module _ {A : Type 0} where
   pub if_true : (b : Bool) (x y : A) → T b → (if b then x else y) ≡ x
   if_true true x y t = refl
   if_true false x y t = absurd t

@@ -5,7 +5,7 @@ use mathlib.Core.Bool.{Bool, true, false}
 use Prim.Native.Nat.{ℕ, ◌+◌, ◌%◌, ◌^◌, ◌<◌}
 use native.Mathlib.Nat.{mod-add-mod, add-mod-mod, add_assoc}
 use lib.Bits.{xor_zero_l, xor_zero_r, xor_self, xor_comm, xor_lt}
-use Rattle.gf2.specs.If.{if◌then◌else◌}
+use Rattle.std.specs.Prelude.{if◌then◌else◌}
 use Rattle.gf2.specs.Sets.{bit, ◌⊕◌}
 use Rattle.gf2.proofs.Bits.{bit-⊕, ext}
 

@@ -1,4 +1,3 @@
-pub mod If
 pub mod Sets
 pub mod Span
 pub mod Within

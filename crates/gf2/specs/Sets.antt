@@ -1,10 +1,9 @@
 -- Sets of disks as numbers: disk i is in a set where bit i of its number is 1.
 -- Every natural number is a set here; the code's sets have 32 bits.
 -- Assumes nothing.
-use Rattle.std.specs.Prelude.{Bool, not, ◌&&◌, List, [], ◌∷◌, ℕ, zero, suc, ◌+◌, ◌-◌, ◌/◌, ◌%◌, ◌^◌, eqb}
+use Rattle.std.specs.Prelude.{Bool, not, ◌&&◌, List, [], ◌∷◌, ℕ, zero, suc, ◌+◌, ◌-◌, ◌/◌, ◌%◌, ◌^◌, eqb, if◌then◌else◌}
 use Rattle.std.specs.Int.Bits.{bit_and, bit_or, bit_xor}
 use Rattle.std.specs.Int.Count.{ones}
-use Rattle.gf2.specs.If.{if◌then◌else◌}
 
 infixl 60 ◌⊕◌
 infixl 60 ◌∖◌

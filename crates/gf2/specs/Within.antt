@@ -1,8 +1,7 @@
 -- The words of a span that lie inside a set: the one elimination of the engine. What it means stands in Theorems.
 -- Assumes nothing.
-use Rattle.std.specs.Prelude.{List, [], ◌∷◌, map, ℕ, zero, suc, length}
+use Rattle.std.specs.Prelude.{List, [], ◌∷◌, map, ℕ, zero, suc, length, if◌then◌else◌}
 use Rattle.std.specs.Int.Count.{count_trailing_zeros}
-use Rattle.gf2.specs.If.{if◌then◌else◌}
 use Rattle.gf2.specs.Sets.{has, ◌⊕◌, ◌∖◌, ◌⊆◌}
 
 -- the lowest disk of a set that is not empty; a number has fewer digits than its value

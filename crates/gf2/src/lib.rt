@@ -4,8 +4,7 @@
 // The contracts cite specs/; what `within` means is said in specs/Theorems.antt.
 #![tactic(auto)]
 
-ghost use Rattle.std.specs.Prelude.{◌≡◌, not, map, ◌≢◌, ◌%◌, ◌^◌, ◌≤◌, ◌<◌, ltb, take};
-ghost use Rattle.gf2.specs.If.{if◌then◌else◌};
+ghost use Rattle.std.specs.Prelude.{◌≡◌, not, map, ◌≢◌, ◌%◌, ◌^◌, ◌≤◌, ◌<◌, ltb, take, if◌then◌else◌};
 ghost use Rattle.gf2.specs.Sets.{has, size, first, set_of, ◌⊆◌, ◌∖◌, union};
 ghost use Rattle.gf2.specs.Span.{select};
 ghost use Rattle.gf2.specs.Within.{lowest, clear, within};

@@ -9,7 +9,7 @@ use native.Mathlib.Omega.{arith}
 use lib.Dec.{ltb}
 use lib.ListN.{get_or}
 use lib.Pow.{pow_mono}
-use Rattle.gf2.specs.If.{if◌then◌else◌}
+use Rattle.std.specs.Prelude.{if◌then◌else◌}
 use Rattle.gf2.specs.Sets.{has, size}
 use Rattle.gf2.proofs.Tests.{ltb_in, ltb_out, below_or, if_true, if_false}
 use Rattle.gf2.proofs.Sizes.{size_lt}

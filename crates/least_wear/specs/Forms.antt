@@ -1,8 +1,7 @@
 -- One number for each set, its rank, by which the code finds the least. Nobody has to believe these: no public contract names them, and the
 -- statements below say what they are.
 -- Assumes nothing.
-use Rattle.std.specs.Prelude.{◌≡◌, List, ℕ, zero, suc, ◌+◌, ◌*◌, ◌/◌, ◌%◌, ◌^◌, ◌≤◌, ◌<◌, ltb, length, get_or}
-use Rattle.gf2.specs.If.{if◌then◌else◌}
+use Rattle.std.specs.Prelude.{◌≡◌, List, ℕ, zero, suc, ◌+◌, ◌*◌, ◌/◌, ◌%◌, ◌^◌, ◌≤◌, ◌<◌, ltb, length, get_or, if◌then◌else◌}
 use Rattle.flat.specs.Lists.{tabulate, padded}
 use Rattle.flat.specs.Cards.{Code, disks}
 use Rattle.wear.specs.Wear.{sum_over}

@@ -10,7 +10,7 @@ use borrow.Author.Tests.{eq-eqb, ne_eqb}
 use lib.Bits.{bit_xor}
 use lib.Dec.{T, eqb}
 use lib.ListN.{length, get_or, take, length-map}
-use Rattle.gf2.specs.If.{if◌then◌else◌}
+use Rattle.std.specs.Prelude.{if◌then◌else◌}
 use Rattle.gf2.specs.Sets.{bit, has, ◌⊕◌, ◌∖◌, ◌⊆◌}
 use Rattle.gf2.specs.Span.{InSpan, Independent, select}
 use Rattle.gf2.specs.Within.{lowest, clear, within}

@@ -8,7 +8,7 @@ use native.Mathlib.Nat.{lt_irrefl}
 use native.Mathlib.Omega.{arith}
 use lib.Dec.{T, eqb}
 use lib.ListN.{length, get_or}
-use Rattle.gf2.specs.If.{if◌then◌else◌}
+use Rattle.std.specs.Prelude.{if◌then◌else◌}
 use Rattle.gf2.specs.Sets.{bit, ◌⊆◌}
 use Rattle.gf2.specs.Span.{InSpan, Independent, select, Minimal}
 use Rattle.gf2.specs.Within.{within}

@@ -12,7 +12,7 @@ use lib.Bits.{xor_shr}
 use lib.Count.{count_trailing_zeros}
 use lib.Dec.{T, eqb}
 use lib.ListN.{length, get_or, take}
-use Rattle.gf2.specs.If.{if◌then◌else◌}
+use Rattle.std.specs.Prelude.{if◌then◌else◌}
 use Rattle.gf2.specs.Sets.{bit, has, ◌⊕◌}
 use Rattle.gf2.specs.Span.{InSpan, Independent, select}
 use Rattle.gf2.specs.Within.{lowest}

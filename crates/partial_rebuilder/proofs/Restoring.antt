@@ -6,7 +6,7 @@ use mathlib.Core.List.{List, [], ◌∷◌}
 use Prim.Native.Nat.{ℕ, ◌+◌, ◌*◌, ◌≤◌}
 use lib.Dec.{T}
 use lib.ListN.{length}
-use Rattle.gf2.specs.If.{if◌then◌else◌}
+use Rattle.std.specs.Prelude.{if◌then◌else◌}
 use Rattle.gf2.specs.Sets.{has, ◌∖◌, ◌⊆◌, union}
 use Rattle.gf2.specs.Within.{within}
 use Rattle.gf2.proofs.Subsets.{⊆_in, ⊆-refl, ∖_out}

@@ -8,7 +8,7 @@ use Prim.Native.Nat.{ℕ, ◌*◌, ◌<◌}
 use native.Mathlib.Omega.{arith}
 use lib.Dec.{T, eqb}
 use lib.ListN.{length}
-use Rattle.gf2.specs.If.{if◌then◌else◌}
+use Rattle.std.specs.Prelude.{if◌then◌else◌}
 use Rattle.gf2.proofs.Tests.{dec, eqb_in, eqb_out}
 use Rattle.flat.specs.Cards.{Code, Card, code_of, disks, set_ok}
 use Rattle.flat.specs.Strips.{length_ok}

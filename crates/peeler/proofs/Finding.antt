@@ -10,7 +10,7 @@ use native.Mathlib.Omega.{arith}
 use lib.Dec.{T, eqb, ltb}
 use lib.ListN.{get_or}
 use lib.Pow.{pow-lt, pow_pos}
-use Rattle.gf2.specs.If.{if◌then◌else◌}
+use Rattle.std.specs.Prelude.{if◌then◌else◌}
 use Rattle.gf2.specs.Sets.{size, ◌∩◌}
 use Rattle.gf2.specs.Within.{lowest}
 use Rattle.gf2.proofs.Tests.{and_in, and_out, unless_in, unless_out, eqb_in, eqb_out, ltb_in, ltb_out, below_suc, below_or}

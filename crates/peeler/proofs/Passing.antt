@@ -8,7 +8,7 @@ use Prim.Native.Nat.{ℕ, ◌+◌}
 use native.Mathlib.Numerals.{add-one}
 use lib.Dec.{ltb}
 use lib.ListN.{get_or}
-use Rattle.gf2.specs.If.{if◌then◌else◌}
+use Rattle.std.specs.Prelude.{if◌then◌else◌}
 use Rattle.gf2.specs.Sets.{size, ◌∩◌}
 use Rattle.gf2.proofs.Tests.{true-T, false-T, T_true, T_false, T-ext, ltb_in, ltb_out, if_true, if_false}
 use Rattle.peeler.specs.Forms.{Found, better, found}

@@ -1,7 +1,6 @@
 -- The form that the code goes by to find a step. Nobody has to believe it: `NextFound` says that it is the rule's step.
 -- Assumes nothing.
-use Rattle.std.specs.Prelude.{◌≡◌, Bool, ◌&&◌, ◌||◌, ◌≢◌, ◌↔◌, List, ℕ, zero, suc, ◌^◌, ◌<◌, T, eqb, ltb, get_or}
-use Rattle.gf2.specs.If.{if◌then◌else◌}
+use Rattle.std.specs.Prelude.{◌≡◌, Bool, ◌&&◌, ◌||◌, ◌≢◌, ◌↔◌, List, ℕ, zero, suc, ◌^◌, ◌<◌, T, eqb, ltb, get_or, if◌then◌else◌}
 use Rattle.gf2.specs.Sets.{size, ◌∩◌}
 use Rattle.flat.specs.Cards.{Code}
 use Rattle.flat.specs.Checks.{check}

@@ -8,7 +8,7 @@ use native.Mathlib.Nat.{not-suc-le-zero}
 use native.Mathlib.Omega.{arith}
 use lib.Dec.{T}
 use lib.ListN.{length}
-use Rattle.gf2.specs.If.{if◌then◌else◌}
+use Rattle.std.specs.Prelude.{if◌then◌else◌}
 use Rattle.gf2.specs.Sets.{has, size, ◌∩◌, ◌⊆◌, ◌∖◌}
 use Rattle.gf2.proofs.Tests.{eqb_out}
 use Rattle.gf2.proofs.Subsets.{⊆_in, ∩_in, ∩_out, ∖_out, member_below, power_in, power_out}

@@ -5,7 +5,7 @@ use mathlib.Core.Bool.{Bool, true, false}
 use mathlib.Core.Logic.{⊎_elim, ◌↔◌}
 use Prim.Native.Nat.{ℕ, zero, suc, ◌^◌}
 use lib.Dec.{T}
-use Rattle.gf2.specs.If.{if◌then◌else◌}
+use Rattle.std.specs.Prelude.{if◌then◌else◌}
 use Rattle.gf2.specs.Sets.{has, ◌∩◌, ◌∖◌}
 use Rattle.gf2.proofs.Tests.{below_or, eqb_in}
 use Rattle.gf2.proofs.Subsets.{⊆_in, ⊆_antisym, ∩_in, ∩_out, ∖_out, power_in, power_out}

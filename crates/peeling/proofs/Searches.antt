@@ -5,7 +5,7 @@ use Prim.Native.Nat.{ℕ, zero, suc, ◌<◌}
 use native.Mathlib.Nat.{not-suc-le-zero, suc-le-suc_iff}
 use native.Mathlib.Omega.{arith}
 use lib.Dec.{T}
-use Rattle.gf2.specs.If.{if◌then◌else◌}
+use Rattle.std.specs.Prelude.{if◌then◌else◌}
 use Rattle.peeling.specs.Peeling.{lowest_of}
 
 -- where some number below n has p, so has the lowest, and it is below n

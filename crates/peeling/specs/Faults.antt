@@ -1,8 +1,7 @@
 -- Document 02, request [1]: what the call answers, and what it leaves in the tray, for every input.
 -- The tests stand in the documents' order: the card's, 6, 17, 8, 7.
 -- Assumes nothing.
-use Rattle.std.specs.Prelude.{Bool, not, ◌&&◌, List, [], ◌∷◌, ℕ, ◌*◌, eqb, leb, length, get_or}
-use Rattle.gf2.specs.If.{if◌then◌else◌}
+use Rattle.std.specs.Prelude.{Bool, not, ◌&&◌, List, [], ◌∷◌, ℕ, ◌*◌, eqb, leb, length, get_or, if◌then◌else◌}
 use Rattle.flat.specs.Lists.{every, padded}
 use Rattle.flat.specs.Cards.{Code, Card, code_of, disks, set_ok}
 use Rattle.flat.specs.Strips.{length_ok}

@@ -1,7 +1,6 @@
 -- Wrong rules, each told from the request's by C1's code. The proofs are those of proofs/Impostors.antt.
 -- Assumes nothing.
-use Rattle.std.specs.Prelude.{◌≡◌, Bool, List, [], ◌∷◌, ℕ, zero, suc, ◌^◌, get_or}
-use Rattle.gf2.specs.If.{if◌then◌else◌}
+use Rattle.std.specs.Prelude.{◌≡◌, Bool, List, [], ◌∷◌, ℕ, zero, suc, ◌^◌, get_or, if◌then◌else◌}
 use Rattle.gf2.specs.Sets.{◌∖◌}
 use Rattle.flat.specs.Cards.{Code, code, disks}
 use Rattle.flat.specs.Checks.{check}

@@ -1,8 +1,7 @@
 -- Document 02, request [1]: quick repair of one stripe, step by step. In the field's words, peeling.
 -- A check of the code is a parity disk with its data disks (`check`, flat/specs/Checks.antt).
 -- Assumes nothing.
-use Rattle.std.specs.Prelude.{Bool, List, ℕ, zero, suc, ◌^◌, eqb}
-use Rattle.gf2.specs.If.{if◌then◌else◌}
+use Rattle.std.specs.Prelude.{Bool, List, ℕ, zero, suc, ◌^◌, eqb, if◌then◌else◌}
 use Rattle.gf2.specs.Sets.{◌∩◌, ◌∖◌}
 use Rattle.flat.specs.Lists.{some}
 use Rattle.flat.specs.Cards.{Code, disks}

@@ -10,7 +10,7 @@ use borrow.Author.Tests.{lt-ltb}
 use lib.Dec.{T}
 use lib.ListN.{length, take, drop, replicate, length-replicate, length-drop, drop_of_length-le}
 use lib.Seq.{length-take-le}
-use Rattle.gf2.specs.If.{if◌then◌else◌}
+use Rattle.std.specs.Prelude.{if◌then◌else◌}
 use Rattle.gf2.specs.Sets.{has}
 use Rattle.gf2.proofs.Tests.{dec, if_true, if_false}
 use Rattle.flat.specs.Lists.{Bytes, range, each, bytes}

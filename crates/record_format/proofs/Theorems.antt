@@ -9,7 +9,7 @@ use native.Mathlib.Omega.{arith}
 use lib.Dec.{eqb, eqb-suc-zero}
 use lib.ListN.{length, take, drop}
 use lib.Seq.{take_at}
-use Rattle.gf2.specs.If.{if◌then◌else◌}
+use Rattle.std.specs.Prelude.{if◌then◌else◌}
 use Rattle.flat.specs.Cards.{disks, code_of, edition_one}
 use Rattle.record_format.specs.Records.{record_length, record_bytes, body_in}
 use Rattle.flat.specs.Faults.{Report, refused, unless_refused}

@@ -1,8 +1,7 @@
 -- Document 01, "Faults by their source", for the record file: what its calls answer, and what they leave in a lent buffer, for every
 -- input. The tests of a call stand in the document's order.
 -- Assumes nothing.
-use Rattle.std.specs.Prelude.{not, List, [], ◌∷◌, ◌++◌, ℕ, suc, eqb, ltb, length, drop}
-use Rattle.gf2.specs.If.{if◌then◌else◌}
+use Rattle.std.specs.Prelude.{not, List, [], ◌∷◌, ◌++◌, ℕ, suc, eqb, ltb, length, drop, if◌then◌else◌}
 use Rattle.gf2.specs.Sets.{has}
 use Rattle.flat.specs.Lists.{padded}
 use Rattle.flat.specs.Cards.{Code, disks, card_length, code_of, edition_one}

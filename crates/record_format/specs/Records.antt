@@ -2,8 +2,7 @@
 -- A record is a container file: a table of contents, then the card and the strips that are not lost. Multi-byte numbers stand low
 -- byte first. Entry 0 is the card's, entry i + 1 that of disk i.
 -- Assumes nothing.
-use Rattle.std.specs.Prelude.{Bool, not, ◌&&◌, List, [], ◌∷◌, ◌++◌, ℕ, suc, ◌+◌, ◌*◌, eqb, leb, length, get_or, take, drop}
-use Rattle.gf2.specs.If.{if◌then◌else◌}
+use Rattle.std.specs.Prelude.{Bool, not, ◌&&◌, List, [], ◌∷◌, ◌++◌, ℕ, suc, ◌+◌, ◌*◌, eqb, leb, length, get_or, take, drop, if◌then◌else◌}
 use Rattle.gf2.specs.Sets.{has}
 use Rattle.flat.specs.Lists.{every, count, set_of, range, each, same, bytes, field}
 use Rattle.flat.specs.Cards.{Code, disks, card_length}

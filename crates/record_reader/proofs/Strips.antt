@@ -6,7 +6,7 @@ use mathlib.Core.List.{List, [], ◌∷◌}
 use Prim.Native.Nat.{ℕ, ◌+◌}
 use lib.Dec.{eqb}
 use lib.ListN.{length}
-use Rattle.gf2.specs.If.{if◌then◌else◌}
+use Rattle.std.specs.Prelude.{if◌then◌else◌}
 use Rattle.flat.specs.Cards.{code, disks, card_length}
 use Rattle.flat.specs.Faults.{accepted, refused}
 use Rattle.record_format.specs.Records.{strips_at, body_at, record_length, length_in, lost_in, strip_entries_ok}

@@ -12,7 +12,7 @@ use lib.Dec.{ltb, eqb}
 use lib.ListN.{length, drop, length-append}
 use lib.Pow.{pow_mono}
 use lib.Seq.{take_at}
-use Rattle.gf2.specs.If.{if◌then◌else◌}
+use Rattle.std.specs.Prelude.{if◌then◌else◌}
 use Rattle.gf2.specs.Sets.{size}
 use Rattle.flat.specs.Lists.{range, filter}
 use Rattle.flat.specs.Cards.{Code, code_of, disks, edition_one}

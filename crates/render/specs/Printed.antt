@@ -1,7 +1,6 @@
 -- Document 01, "Worked codes": what the listing program prints for a card, where it lends n entries.
 -- Assumes nothing.
-use Rattle.std.specs.Prelude.{List, [], ℕ, leb, length, take}
-use Rattle.gf2.specs.If.{if◌then◌else◌}
+use Rattle.std.specs.Prelude.{List, [], ℕ, leb, length, take, if◌then◌else◌}
 use Rattle.flat.specs.Cards.{code_of, edition_one}
 use Rattle.flat.specs.Erasures.{erasures, vector}
 use Rattle.flat.specs.Faults.{unless_refused, erasures_report}

@@ -1,7 +1,6 @@
 -- Document 02, [8] "Alike, but not the same spares": renumbering the parity disks. What alike means stands in flat/specs/Alike.antt.
 -- Assumes nothing.
-use Rattle.std.specs.Prelude.{◌≡◌, ◌&&◌, ℕ, ◌+◌, ◌-◌, ◌<◌, eqb, ltb}
-use Rattle.gf2.specs.If.{if◌then◌else◌}
+use Rattle.std.specs.Prelude.{◌≡◌, ◌&&◌, ℕ, ◌+◌, ◌-◌, ◌<◌, eqb, ltb, if◌then◌else◌}
 use Rattle.gf2.specs.Sets.{has}
 use Rattle.flat.specs.Lists.{some, set_of, Permutes}
 use Rattle.flat.specs.Cards.{Code, disks, column}

@@ -8,7 +8,7 @@ use Prim.Native.Nat.{ℕ, ◌+◌, ◌*◌, ◌/◌, ◌%◌, ◌^◌, ◌<◌}
 use lib.Arith.{digits_div, digits_mod}
 use lib.Dec.{T, eqb}
 use lib.ListN.{length, get_or}
-use Rattle.gf2.specs.If.{if◌then◌else◌}
+use Rattle.std.specs.Prelude.{if◌then◌else◌}
 use Rattle.gf2.specs.Sets.{has, ◌⊆◌, ◌∖◌, over}
 use Rattle.gf2.proofs.Tests.{dec, eqb_in, eqb_out, if_true, if_false}
 use Rattle.gf2.proofs.Bits.{has_if, bit-pow}

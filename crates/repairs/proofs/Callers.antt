@@ -9,7 +9,7 @@ use Prim.Native.Nat.{ℕ, ◌^◌, ◌≤◌, ◌<◌}
 use native.Mathlib.Nat.{lt_of_lt_of_le}
 use lib.Dec.{T, ltb}
 use lib.ListN.{get_or}
-use Rattle.gf2.specs.If.{if◌then◌else◌}
+use Rattle.std.specs.Prelude.{if◌then◌else◌}
 use Rattle.gf2.specs.Sets.{has, ◌⊆◌, union}
 use Rattle.gf2.specs.Within.{within}
 use Rattle.gf2.proofs.Tests.{dec, and_in, if_true, ltb_in, below_or}

@@ -6,8 +6,7 @@
 // Rebuilt.
 #![tactic(auto)]
 
-ghost use Rattle.std.specs.Prelude.{◌≡◌, ◌&&◌, ◌<◌, ◌≤◌, ltb, take};
-ghost use Rattle.gf2.specs.If.{if◌then◌else◌};
+ghost use Rattle.std.specs.Prelude.{◌≡◌, ◌&&◌, ◌<◌, ◌≤◌, ltb, take, if◌then◌else◌};
 ghost use Rattle.gf2.specs.Sets.{has, union};
 ghost use Rattle.gf2.specs.Within.{within};
 ghost use Rattle.flat.specs.Lists.{tabulate};

@@ -6,8 +6,7 @@
 // written by these sets alone (crate strips).
 #![tactic(auto)]
 
-ghost use Rattle.std.specs.Prelude.{◌≡◌, List, ℕ, ◌+◌, ◌*◌, ◌^◌, ◌<◌, ◌≤◌, T, length};
-ghost use Rattle.gf2.specs.If.{if◌then◌else◌};
+ghost use Rattle.std.specs.Prelude.{◌≡◌, List, ℕ, ◌+◌, ◌*◌, ◌^◌, ◌<◌, ◌≤◌, T, length, if◌then◌else◌};
 ghost use Rattle.gf2.specs.Sets.{◌⊆◌};
 ghost use Rattle.flat.specs.Cards.{code, code_in};
 ghost use Rattle.flat.specs.Faults.{Report, stripe_tests};

@@ -6,8 +6,7 @@
 // in turning/specs: Turning and Slots.
 #![tactic(auto)]
 
-ghost use Rattle.std.specs.Prelude.{◌≡◌, ◌&&◌, map, ◌-◌, ◌%◌, ◌^◌, ◌<◌, ◌≤◌, ltb, take};
-ghost use Rattle.gf2.specs.If.{if◌then◌else◌};
+ghost use Rattle.std.specs.Prelude.{◌≡◌, ◌&&◌, map, ◌-◌, ◌%◌, ◌^◌, ◌<◌, ◌≤◌, ltb, take, if◌then◌else◌};
 ghost use Rattle.gf2.specs.Sets.{has};
 ghost use Rattle.flat.specs.Lists.{tabulate};
 ghost use Rattle.flat.specs.Repairs.{equation_in};

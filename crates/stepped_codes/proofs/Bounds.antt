@@ -9,7 +9,7 @@ use native.Mathlib.Omega.{arith}
 use lib.Dec.{T, eqb, leb, ltb}
 use lib.ListN.{length}
 use lib.Pow.{pow_mono}
-use Rattle.gf2.specs.If.{if◌then◌else◌}
+use Rattle.std.specs.Prelude.{if◌then◌else◌}
 use Rattle.gf2.proofs.Bits.{lt_pow}
 use Rattle.gf2.proofs.Tests.{ltb_in, ltb_out, leb_in, leb_out, and_in, and_out, below_or}
 use Rattle.stepped_codes.specs.Stepped.{parity_sets, within_bounds}

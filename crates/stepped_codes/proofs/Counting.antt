@@ -9,7 +9,7 @@ use native.Mathlib.Nat.{pow-suc, zero-mul}
 use native.Mathlib.Omega.{arith}
 use lib.Dec.{T, eqb}
 use lib.ListN.{length, length-append, length-map}
-use Rattle.gf2.specs.If.{if◌then◌else◌}
+use Rattle.std.specs.Prelude.{if◌then◌else◌}
 use Rattle.gf2.specs.Sets.{size}
 use Rattle.gf2.proofs.Tests.{T-ext, eqb_in, eqb_out, if_true, if_false}
 use Rattle.flat.specs.Lists.{range, filter}

@@ -10,7 +10,7 @@ use borrow.Author.Tests.{lt-ltb, le-ltb}
 use lib.Dec.{T, eqb, ltb}
 use lib.ListN.{length, get_or, length-append, get_or-append}
 use lib.Seq.{get_or-append-add}
-use Rattle.gf2.specs.If.{if◌then◌else◌}
+use Rattle.std.specs.Prelude.{if◌then◌else◌}
 use Rattle.gf2.specs.Sets.{size}
 use Rattle.gf2.proofs.Tests.{dec, T-ext, and_in, and_out, eqb_out, below_or}
 use Rattle.flat.specs.Lists.{range, filter, each, ordered_by}

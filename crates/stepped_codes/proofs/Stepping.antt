@@ -7,7 +7,7 @@ use mathlib.Core.List.{List, [], ◌∷◌, map, map-id}
 use Prim.Native.Nat.{ℕ, suc, ◌+◌, ◌-◌, ◌≤◌, ◌<◌}
 use native.Mathlib.Omega.{arith}
 use lib.Dec.{T, eqb}
-use Rattle.gf2.specs.If.{if◌then◌else◌}
+use Rattle.std.specs.Prelude.{if◌then◌else◌}
 use Rattle.flat.specs.Lists.{range, filter}
 use Rattle.flat.proofs.Filters.{coming, coming-kept, coming-none, coming_past}
 use Rattle.stepped_codes.specs.Stepped.{distance_ok, step, size_ok}

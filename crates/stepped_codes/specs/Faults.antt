@@ -1,8 +1,7 @@
 -- Document 02, request [7]: what the call answers, and what it leaves in the buffer, for every input.
 -- The tests stand in the document's order: 2, 3, 20, 21, 7.
 -- Assumes nothing.
-use Rattle.std.specs.Prelude.{not, List, [], ℕ, eqb, length}
-use Rattle.gf2.specs.If.{if◌then◌else◌}
+use Rattle.std.specs.Prelude.{not, List, [], ℕ, eqb, length, if◌then◌else◌}
 use Rattle.flat.specs.Cards.{count_ok, card_length, card_bytes}
 use Rattle.flat.specs.Faults.{Report, accepted, refused, unless_refused}
 use Rattle.stepped_codes.specs.Stepped.{distance_ok, stepped, within_bounds}

@@ -1,8 +1,7 @@
 -- A parity set by its place, found by counts of combinations. Computing code goes by these; nobody has to believe them, since Theorems
 -- says what they are and no public contract names them.
 -- Assumes nothing.
-use Rattle.std.specs.Prelude.{List, [], ◌∷◌, ℕ, zero, suc, ◌+◌, ◌-◌, ◌^◌, ltb}
-use Rattle.gf2.specs.If.{if◌then◌else◌}
+use Rattle.std.specs.Prelude.{List, [], ◌∷◌, ℕ, zero, suc, ◌+◌, ◌-◌, ◌^◌, ltb, if◌then◌else◌}
 use Rattle.flat.specs.Lists.{range, filter}
 use Rattle.stepped_codes.specs.Stepped.{size_ok, choose}
 

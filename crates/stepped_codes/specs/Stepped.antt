@@ -2,8 +2,7 @@
 -- The Stepped Combination code of document 002, section III-C. A data disk's parity set is the set of the parity disks that it goes into;
 -- bit j stands for parity disk k + j.
 -- Assumes nothing.
-use Rattle.std.specs.Prelude.{Bool, ◌&&◌, ◌||◌, List, ℕ, zero, suc, ◌+◌, ◌-◌, ◌*◌, ◌^◌, eqb, leb, ltb, get_or}
-use Rattle.gf2.specs.If.{if◌then◌else◌}
+use Rattle.std.specs.Prelude.{Bool, ◌&&◌, ◌||◌, List, ℕ, zero, suc, ◌+◌, ◌-◌, ◌*◌, ◌^◌, eqb, leb, ltb, get_or, if◌then◌else◌}
 use Rattle.gf2.specs.Sets.{has, size}
 use Rattle.flat.specs.Lists.{some, set_of, range, tabulate, filter, ordered_by}
 use Rattle.flat.specs.Cards.{Code, code}

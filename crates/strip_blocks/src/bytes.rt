@@ -1,6 +1,5 @@
 // One byte of the XOR of strips, for strips of up to 3 bytes.
-ghost use Rattle.std.specs.Prelude.{◌≡◌, ◌*◌, ◌+◌, ◌<◌, ◌≤◌, length, get_or};
-ghost use Rattle.gf2.specs.If.{if◌then◌else◌};
+ghost use Rattle.std.specs.Prelude.{◌≡◌, ◌*◌, ◌+◌, ◌<◌, ◌≤◌, length, get_or, if◌then◌else◌};
 ghost use Rattle.gf2.specs.Sets.{has, ◌⊕◌, over};
 ghost use Rattle.flat.specs.Strips.{byte_of};
 

@@ -6,8 +6,7 @@
 // may reach past their strip's end, not past the slice's.
 #![tactic(auto)]
 
-ghost use Rattle.std.specs.Prelude.{◌≡◌, ◌+◌, ◌-◌, ◌*◌, ◌<◌, ◌≤◌, min, eqb, length, get_or, take};
-ghost use Rattle.gf2.specs.If.{if◌then◌else◌};
+ghost use Rattle.std.specs.Prelude.{◌≡◌, ◌+◌, ◌-◌, ◌*◌, ◌<◌, ◌≤◌, min, eqb, length, get_or, take, if◌then◌else◌};
 ghost use Rattle.gf2.specs.Sets.{has, ◌⊕◌, over};
 ghost use Rattle.flat.specs.Lists.{every, tabulate, put};
 ghost use Rattle.flat.specs.Strips.{byte_of};

@@ -1,7 +1,6 @@
 // The same in blocks of 16 bytes, for strips shorter than 128 bytes. Strips of 4 to 15 bytes are first copied to
 // where bytes follow, so that a block at the last one stays inside.
-ghost use Rattle.std.specs.Prelude.{◌≡◌, ◌+◌, ◌*◌, ◌<◌, ◌≤◌, eqb, length, get_or, take};
-ghost use Rattle.gf2.specs.If.{if◌then◌else◌};
+ghost use Rattle.std.specs.Prelude.{◌≡◌, ◌+◌, ◌*◌, ◌<◌, ◌≤◌, eqb, length, get_or, take, if◌then◌else◌};
 ghost use Rattle.gf2.specs.Sets.{has, ◌⊕◌, over};
 ghost use Rattle.flat.specs.Lists.{every, tabulate, put};
 ghost use Rattle.flat.specs.Strips.{byte_of};

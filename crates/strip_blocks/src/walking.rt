@@ -1,7 +1,6 @@
 // The same from one disk of the set to the next, so that only its strips are visited: for sets of few disks,
 // and for blocks of 128 bytes that are only read.
-ghost use Rattle.std.specs.Prelude.{◌≡◌, false, ◌+◌, ◌-◌, ◌*◌, ◌/◌, ◌≤◌, leb, ltb, length};
-ghost use Rattle.gf2.specs.If.{if◌then◌else◌};
+ghost use Rattle.std.specs.Prelude.{◌≡◌, false, ◌+◌, ◌-◌, ◌*◌, ◌/◌, ◌≤◌, leb, ltb, length, if◌then◌else◌};
 ghost use Rattle.gf2.specs.Sets.{size, over};
 ghost use Rattle.flat.specs.Lists.{tabulate};
 ghost use Rattle.flat.specs.Strips.{byte_of};

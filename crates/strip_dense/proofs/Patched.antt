@@ -12,7 +12,7 @@ use lib.Arith.{digits_lt, digits_div, digits_mod}
 use lib.Dec.{T, leb, ltb}
 use lib.ListN.{length, get_or, take, drop, length-drop}
 use lib.Seq.{ext_get_or, get_or-take, get_or-drop, length-take-le}
-use Rattle.gf2.specs.If.{if◌then◌else◌}
+use Rattle.std.specs.Prelude.{if◌then◌else◌}
 use Rattle.gf2.specs.Sets.{has, over}
 use Rattle.gf2.proofs.Tests.{dec, and_in, and_out, leb_in, leb_out, ltb_in, ltb_out, below_suc, below_or, if_true, if_false}
 use Rattle.gf2.proofs.Sums.{over_cong}

@@ -1,7 +1,6 @@
 -- How often sets name strips.
 -- Assumes nothing.
-use Rattle.std.specs.Prelude.{List, ℕ, zero, suc, ◌+◌, get_or}
-use Rattle.gf2.specs.If.{if◌then◌else◌}
+use Rattle.std.specs.Prelude.{List, ℕ, zero, suc, ◌+◌, get_or, if◌then◌else◌}
 use Rattle.gf2.specs.Sets.{has, size}
 
 -- how many strips the sets of the targets below n name, each counted as often as it is named

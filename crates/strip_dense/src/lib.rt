@@ -5,8 +5,7 @@
 // It assumes strips of 128 bytes or more, at most 32 disks, and that no strip that is read is a target's.
 #![tactic(auto)]
 
-ghost use Rattle.std.specs.Prelude.{◌≡◌, ◌&&◌, ℕ, ◌+◌, ◌-◌, ◌*◌, ◌/◌, ◌%◌, ◌<◌, ◌≤◌, T, leb, ltb, length, get_or, take, drop};
-ghost use Rattle.gf2.specs.If.{if◌then◌else◌};
+ghost use Rattle.std.specs.Prelude.{◌≡◌, ◌&&◌, ℕ, ◌+◌, ◌-◌, ◌*◌, ◌/◌, ◌%◌, ◌<◌, ◌≤◌, T, leb, ltb, length, get_or, take, drop, if◌then◌else◌};
 ghost use Rattle.gf2.specs.Sets.{has, over};
 ghost use Rattle.flat.specs.Lists.{tabulate, put};
 ghost use Rattle.flat.specs.Strips.{byte_of};

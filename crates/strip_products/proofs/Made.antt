@@ -10,7 +10,7 @@ use lib.Arith.{digits_lt, digits_div, digits_mod}
 use lib.Dec.{T, ltb}
 use lib.ListN.{length, get_or}
 use lib.Seq.{ext_get_or}
-use Rattle.gf2.specs.If.{if◌then◌else◌}
+use Rattle.std.specs.Prelude.{if◌then◌else◌}
 use Rattle.gf2.proofs.Tests.{dec, ltb_in, ltb_out, below_suc, below_or, if_true, if_false}
 use Rattle.flat.specs.Lists.{tabulate, put}
 use Rattle.flat.specs.Strips.{byte_of}

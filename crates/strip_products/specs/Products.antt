@@ -1,8 +1,7 @@
 -- Parity strips by products: each data byte times a bit, 0 or 1, of a table that has 16 places for each data disk, place j for parity disk k + j.
 -- Nobody has to believe these: `MultipliedEncodes` says that with the columns' bits they are document 01's encoding.
 -- Assumes nothing.
-use Rattle.std.specs.Prelude.{List, ℕ, ◌+◌, ◌-◌, ◌*◌, ◌/◌, ◌%◌, ◌≤◌, ltb, length, get_or}
-use Rattle.gf2.specs.If.{if◌then◌else◌}
+use Rattle.std.specs.Prelude.{List, ℕ, ◌+◌, ◌-◌, ◌*◌, ◌/◌, ◌%◌, ◌≤◌, ltb, length, get_or, if◌then◌else◌}
 use Rattle.flat.specs.Lists.{tabulate}
 use Rattle.flat.specs.Strips.{byte_of}
 use Rattle.strip_blocks.specs.Totals.{total}

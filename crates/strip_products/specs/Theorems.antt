@@ -1,7 +1,6 @@
 -- What a product with a column's bit is, and what stripes become by such products. The proofs are those of proofs/Theorems.antt.
 -- Assumes nothing.
-use Rattle.std.specs.Prelude.{◌≡◌, List, ℕ, ◌+◌, ◌*◌, ◌<◌, length, get_or}
-use Rattle.gf2.specs.If.{if◌then◌else◌}
+use Rattle.std.specs.Prelude.{◌≡◌, List, ℕ, ◌+◌, ◌*◌, ◌<◌, length, get_or, if◌then◌else◌}
 use Rattle.gf2.specs.Sets.{bit, has, over}
 use Rattle.flat.specs.Cards.{Code, column, disks}
 use Rattle.flat.specs.Strips.{encoded}

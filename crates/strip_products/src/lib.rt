@@ -1,8 +1,7 @@
 // A data byte times a column's bit: the one product that the encoder is made of.
 #![tactic(auto)]
 
-ghost use Rattle.std.specs.Prelude.{◌≡◌, ◌*◌, ◌≤◌, eqb};
-ghost use Rattle.gf2.specs.If.{if◌then◌else◌};
+ghost use Rattle.std.specs.Prelude.{◌≡◌, ◌*◌, ◌≤◌, eqb, if◌then◌else◌};
 
 // The byte for bit 1, and 0 for bit 0.
 pub fn product(byte: u8, bit: u8) -> u8

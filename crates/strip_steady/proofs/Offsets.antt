@@ -9,7 +9,7 @@ use native.Mathlib.Nat.{zero-add, mod-lt, zero-lt-suc}
 use native.Mathlib.Omega.{arith}
 use lib.Dec.{leb, ltb}
 use lib.ListN.{length, get_or, replicate, length-replicate}
-use Rattle.gf2.specs.If.{if◌then◌else◌}
+use Rattle.std.specs.Prelude.{if◌then◌else◌}
 use Rattle.gf2.proofs.Tests.{and_in, and_out, leb_in, leb_out, ltb_in, ltb_out, below_suc, below_or, if_true, if_false}
 use Rattle.flat.specs.Lists.{tabulate, put}
 use Rattle.flat.specs.Strips.{byte_of}

@@ -1,8 +1,7 @@
 // The same where many long strips are read often: the 128 bytes at one offset of all data strips go into a
 // local array, and that block of every parity strip is computed from it. Strips that lie a power of two
 // apart drive each other out of the cache, and so their bytes are read from the stripe once.
-ghost use Rattle.std.specs.Prelude.{◌≡◌, ◌&&◌, ℕ, ◌+◌, ◌-◌, ◌*◌, ◌%◌, ◌<◌, ◌≤◌, leb, ltb, length, get_or};
-ghost use Rattle.gf2.specs.If.{if◌then◌else◌};
+ghost use Rattle.std.specs.Prelude.{◌≡◌, ◌&&◌, ℕ, ◌+◌, ◌-◌, ◌*◌, ◌%◌, ◌<◌, ◌≤◌, leb, ltb, length, get_or, if◌then◌else◌};
 ghost use Rattle.flat.specs.Strips.{byte_of};
 ghost use Rattle.strip_products.specs.Products.{Bits, products, striped, multiplied};
 

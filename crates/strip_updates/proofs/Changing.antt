@@ -9,7 +9,7 @@ use native.Mathlib.Omega.{arith}
 use lib.Dec.{T}
 use lib.ListN.{length, get_or}
 use lib.Seq.{ext_get_or}
-use Rattle.gf2.specs.If.{if◌then◌else◌}
+use Rattle.std.specs.Prelude.{if◌then◌else◌}
 use Rattle.gf2.specs.Sets.{◌⊕◌}
 use Rattle.gf2.proofs.Tests.{dec, below_or, if_true, if_false}
 use Rattle.gf2.proofs.Xor.{⊕_assoc, ⊕-zero, ⊕_self, ⊕-back}

@@ -8,7 +8,7 @@ use Prim.Native.Nat.{ℕ, ◌+◌, ◌-◌, ◌≤◌, ◌<◌}
 use native.Mathlib.Omega.{arith}
 use lib.Dec.{T, leb, ltb}
 use lib.ListN.{length, get_or}
-use Rattle.gf2.specs.If.{if◌then◌else◌}
+use Rattle.std.specs.Prelude.{if◌then◌else◌}
 use Rattle.gf2.specs.Sets.{◌⊕◌}
 use Rattle.gf2.proofs.Tests.{dec, and_in, and_out, leb_in, leb_out, ltb_in, ltb_out, below_or, if_true, if_false}
 use Rattle.gf2.proofs.Xor.{⊕-zero, zero-⊕, ⊕_four}

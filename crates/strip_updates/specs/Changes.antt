@@ -1,8 +1,7 @@
 -- One strip rewritten among the bytes of a slice: it starts at q, and the strips that start at the first count places of a list change with
 -- it. Nobody has to believe these: the updater's proofs say that they are document 02's update, and no public contract names them.
 -- Assumes nothing.
-use Rattle.std.specs.Prelude.{Bool, ◌&&◌, List, ℕ, ◌+◌, ◌-◌, leb, ltb, length, get_or}
-use Rattle.gf2.specs.If.{if◌then◌else◌}
+use Rattle.std.specs.Prelude.{Bool, ◌&&◌, List, ℕ, ◌+◌, ◌-◌, leb, ltb, length, get_or, if◌then◌else◌}
 use Rattle.gf2.specs.Sets.{◌⊕◌}
 use Rattle.flat.specs.Lists.{tabulate}
 use Rattle.strip_blocks.specs.Totals.{total}

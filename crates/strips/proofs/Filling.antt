@@ -10,7 +10,7 @@ use lib.Arith.{digits_lt, digits_div}
 use lib.Dec.{T}
 use lib.ListN.{length, get_or, take}
 use lib.Seq.{get_or-take, length-take-le}
-use Rattle.gf2.specs.If.{if◌then◌else◌}
+use Rattle.std.specs.Prelude.{if◌then◌else◌}
 use Rattle.gf2.specs.Sets.{has, over}
 use Rattle.gf2.proofs.Tests.{below_suc, if_true, if_false}
 use Rattle.gf2.proofs.Subsets.{power_in, power_out}

@@ -5,8 +5,7 @@
 // left in the stripe, is said in turning/specs/Faults.antt. No byte is written before every refusal is decided.
 #![tactic(auto)]
 
-ghost use Rattle.std.specs.Prelude.{◌≡◌, ◌+◌, ◌*◌, ◌^◌, ◌<◌, ◌≤◌, length};
-ghost use Rattle.gf2.specs.If.{if◌then◌else◌};
+ghost use Rattle.std.specs.Prelude.{◌≡◌, ◌+◌, ◌*◌, ◌^◌, ◌<◌, ◌≤◌, length, if◌then◌else◌};
 ghost use Rattle.flat.specs.Cards.{code_in, card_of};
 ghost use Rattle.flat.specs.Repairs.{filled, consistent, equation_among};
 ghost use Rattle.flat.specs.Rebuilding.{agreeing, restored};

@@ -2,8 +2,7 @@
 -- The tests stand in the documents' order: the card's, 6, 7 for turning; the card's, 6, 8, 7, 11, 12 for the turned rebuild. No r is refused: 6, 8 and 7
 -- don't look at it, and 11 and 12 only to know the disks.
 -- Assumes nothing.
-use Rattle.std.specs.Prelude.{not, List, [], ℕ, ◌*◌, eqb, length}
-use Rattle.gf2.specs.If.{if◌then◌else◌}
+use Rattle.std.specs.Prelude.{not, List, [], ℕ, ◌*◌, eqb, length, if◌then◌else◌}
 use Rattle.flat.specs.Cards.{Code, Card, code_of, disks}
 use Rattle.flat.specs.Strips.{length_ok}
 use Rattle.flat.specs.Faults.{Report, accepted, refused, unless_refused, with_card, stripe_tests, disks_report, rebuild_stripe}

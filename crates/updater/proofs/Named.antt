@@ -10,7 +10,7 @@ use native.Mathlib.Numerals.{add-one}
 use native.Mathlib.Omega.{arith}
 use lib.Dec.{T, eqb}
 use lib.ListN.{length, get_or, set}
-use Rattle.gf2.specs.If.{if◌then◌else◌}
+use Rattle.std.specs.Prelude.{if◌then◌else◌}
 use Rattle.gf2.specs.Sets.{has, ◌⊕◌, over}
 use Rattle.gf2.proofs.Tests.{dec, T-ext, eqb_in, eqb_out, eqb_sym, if_true, if_false}
 use Rattle.gf2.proofs.Xor.{⊕-zero, zero-⊕, ⊕_if}

@@ -10,7 +10,7 @@ use lib.Arith.{digits_div, digits_mod}
 use lib.Dec.{T, eqb}
 use lib.ListN.{length, get_or}
 use lib.Seq.{ext_get_or}
-use Rattle.gf2.specs.If.{if◌then◌else◌}
+use Rattle.std.specs.Prelude.{if◌then◌else◌}
 use Rattle.gf2.specs.Sets.{has, ◌⊕◌}
 use Rattle.gf2.proofs.Tests.{dec, eqb_in, eqb_out, if_true, if_false}
 use Rattle.gf2.proofs.Xor.{⊕-zero, ⊕_self, ⊕_comm, ⊕-back, ⊕_if}

@@ -1,8 +1,7 @@
 -- Document 02, request [4]: what the call answers, and what it leaves in the stripe, for every input.
 -- The tests stand in the documents' order: the card's, 6, 9, 18, 7, 19.
 -- Assumes nothing.
-use Rattle.std.specs.Prelude.{not, List, [], ◌∷◌, ℕ, ◌+◌, ◌*◌, eqb, ltb, length}
-use Rattle.gf2.specs.If.{if◌then◌else◌}
+use Rattle.std.specs.Prelude.{not, List, [], ◌∷◌, ℕ, ◌+◌, ◌*◌, eqb, ltb, length, if◌then◌else◌}
 use Rattle.flat.specs.Cards.{Code, Card, code_of, disks}
 use Rattle.flat.specs.Strips.{length_ok}
 use Rattle.flat.specs.Faults.{Report, accepted, refused, unless_refused, with_card}

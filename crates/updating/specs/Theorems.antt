@@ -1,7 +1,6 @@
 -- What an update does, in plain words above each statement. The proofs are those of proofs/.
 -- Assumes nothing.
-use Rattle.std.specs.Prelude.{◌≡◌, ◌≢◌, ◌↔◌, List, [], ◌∷◌, ℕ, ◌+◌, ◌*◌, ◌≤◌, ◌<◌, T, length, get_or}
-use Rattle.gf2.specs.If.{if◌then◌else◌}
+use Rattle.std.specs.Prelude.{◌≡◌, ◌≢◌, ◌↔◌, List, [], ◌∷◌, ℕ, ◌+◌, ◌*◌, ◌≤◌, ◌<◌, T, length, get_or, if◌then◌else◌}
 use Rattle.gf2.specs.Sets.{has, size, ◌⊕◌}
 use Rattle.flat.specs.Lists.{put}
 use Rattle.flat.specs.Cards.{Code, Card, code_of, disks, column}

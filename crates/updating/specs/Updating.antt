@@ -1,8 +1,7 @@
 -- Document 02, request [4]: one strip rewritten. In the field's words, an update of one data disk.
 -- Row d, data disk d with the parity disks whose column names it, is that of flat/specs/Checks.antt.
 -- Assumes nothing.
-use Rattle.std.specs.Prelude.{List, ℕ, ◌/◌, ◌%◌, length, get_or}
-use Rattle.gf2.specs.If.{if◌then◌else◌}
+use Rattle.std.specs.Prelude.{List, ℕ, ◌/◌, ◌%◌, length, get_or, if◌then◌else◌}
 use Rattle.gf2.specs.Sets.{has, ◌⊕◌}
 use Rattle.flat.specs.Lists.{count, tabulate}
 use Rattle.flat.specs.Cards.{Code, column}

@@ -8,7 +8,7 @@ use Prim.Native.Nat.{ℕ, zero, suc, ◌≤◌, ◌<◌}
 use native.Mathlib.Omega.{arith}
 use lib.Dec.{T, leb}
 use lib.ListN.{length, get_or}
-use Rattle.gf2.specs.If.{if◌then◌else◌}
+use Rattle.std.specs.Prelude.{if◌then◌else◌}
 use Rattle.gf2.proofs.Tests.{dec, leb_in, leb_out, below_or, if_true, if_false}
 use Rattle.flat.specs.Lists.{filter}
 use Rattle.flat.specs.Faults.{Report, accepted, refused}

@@ -7,7 +7,7 @@ use Prim.Native.Nat.{ℕ, zero, suc, ◌+◌, ◌*◌, ◌/◌, ◌%◌, ◌^◌
 use native.Mathlib.Nat.{add-mul, div-eq_of_lt, mod-eq_of_lt, mul-le-mul_right}
 use native.Mathlib.Omega.{arith}
 use lib.Dec.{T, eqb}
-use Rattle.gf2.specs.If.{if◌then◌else◌}
+use Rattle.std.specs.Prelude.{if◌then◌else◌}
 use Rattle.gf2.specs.Sets.{has, ◌⊕◌, ◌⊆◌, ◌∖◌}
 use Rattle.gf2.specs.Within.{lowest}
 use Rattle.gf2.proofs.Tests.{dec, T-ext, if_true, if_false}

@@ -1,7 +1,6 @@
 -- Wrong answers, each told from the request's by a small code. The proofs are those of proofs/Impostors.antt.
 -- Assumes nothing.
-use Rattle.std.specs.Prelude.{◌≡◌, true, List, [], ◌∷◌, ℕ, ◌-◌, ◌^◌, T, ltb, get_or}
-use Rattle.gf2.specs.If.{if◌then◌else◌}
+use Rattle.std.specs.Prelude.{◌≡◌, true, List, [], ◌∷◌, ℕ, ◌-◌, ◌^◌, T, ltb, get_or, if◌then◌else◌}
 use Rattle.gf2.specs.Sets.{has, size, ◌⊆◌}
 use Rattle.flat.specs.Cards.{Code, code, disks, edition_one, edition_two}
 use Rattle.flat.specs.Erasures.{survivors, fatal}

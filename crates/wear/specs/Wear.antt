@@ -1,8 +1,7 @@
 -- Document 02, request [10]: for a disk and a lost set, the equation among the survivors with the least total wear.
 -- The tests stand in the documents' order: 8, 9, 11.
 -- Assumes nothing.
-use Rattle.std.specs.Prelude.{not, List, [], ◌∷◌, ℕ, ◌^◌, leb, ltb, get_or}
-use Rattle.gf2.specs.If.{if◌then◌else◌}
+use Rattle.std.specs.Prelude.{not, List, [], ◌∷◌, ℕ, ◌^◌, leb, ltb, get_or, if◌then◌else◌}
 use Rattle.gf2.specs.Sets.{has, ◌∪◌, ◌⊆◌}
 use Rattle.flat.specs.Lists.{tabulate, filter, sum}
 use Rattle.flat.specs.Cards.{Code, Card, disks, set_ok, wears_of}

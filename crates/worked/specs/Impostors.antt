@@ -1,8 +1,7 @@
 -- Impostors: wrong definitions and lists that look right, and a worked code that tells each from the true one.
 -- Document 01 warns of most of them under "What tempts a builder" and "Before a delivery is taken".
 -- Assumes nothing.
-use Rattle.std.specs.Prelude.{◌≡◌, Bool, true, false, not, ◌&&◌, ◌≢◌, List, [], ◌∷◌, map, ℕ, suc, ◌-◌, ◌^◌, eqb, ltb, leb, length, get_or}
-use Rattle.gf2.specs.If.{if◌then◌else◌}
+use Rattle.std.specs.Prelude.{◌≡◌, Bool, true, false, not, ◌&&◌, ◌≢◌, List, [], ◌∷◌, map, ℕ, suc, ◌-◌, ◌^◌, eqb, ltb, leb, length, get_or, if◌then◌else◌}
 use Rattle.gf2.specs.Sets.{size, over, ◌∩◌, ◌⊆◌}
 use Rattle.gf2.specs.Span.{select}
 use Rattle.flat.specs.Lists.{some, every, range, filter, ordered_by, member}
