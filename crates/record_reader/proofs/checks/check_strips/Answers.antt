@@ -13,9 +13,9 @@ returns-then-not-listed c =
 pub returns-then-not-sized : goal.returns-then-not-sized
 returns-then-not-sized c =
     other_end _ _ _ _ _ _ c.requires.5 c.strips_at-start.ensures.0 c.lost_in-lost.ensures _ c.body_at.ensures
-    (sym (c.if-not-listed.false) ∙ c.entries_stand-listed.ensures) (ne_eqb _ _ c.if-not-sized.true)
+    (cc) (ne_eqb _ _ c.if-not-sized.true)
 
 pub returns : goal.returns
 returns c =
     good_end _ _ _ _ _ _ c.requires.5 c.strips_at-start.ensures.0 c.lost_in-lost.ensures _ c.body_at.ensures
-    (sym (c.if-not-listed.false) ∙ c.entries_stand-listed.ensures) (eq-eqb _ _ c.if-not-sized.false)
+    (cc) (eq-eqb _ _ c.if-not-sized.false)
