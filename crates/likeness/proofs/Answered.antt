@@ -1,7 +1,7 @@
 -- The answer on two cards, by what the check found.
 -- Assumes nothing.
 use mathlib.Core.Path.{◌≡◌, sym, ap, ap₂, ◌∙◌}
-use mathlib.Core.Bool.{Bool, false}
+use mathlib.Core.Bool.{Bool, false, and-false}
 use mathlib.Core.List.{List, [], ◌∷◌}
 use Prim.Native.Nat.{ℕ}
 use borrow.Author.Tests.{eq-eqb, ne_eqb}
@@ -44,9 +44,9 @@ module _ (first second : Card) (k m : ℕ) (g : GoodCard first k m) where
     unfolding alike
     data_differs f = rw (ne_eqb k k' f)
 
-    pub parity-differs : k ≡ k' → (m ≡ m' → ⊥) → false ≡ alike A B
+    pub parity-differs : (m ≡ m' → ⊥) → false ≡ alike A B
     unfolding alike
-    parity-differs e f = rw (eq-eqb k k' e, ne_eqb m m' f)
+    parity-differs f = rw (ne_eqb m m' f, and-false)
 
     -- the columns were compared, as the card hands them on
     pub columns-decide : k ≡ k' → m ≡ m' → (xs ys : List ℕ) → xs ≡ column_bytes first → ys ≡ column_bytes second

@@ -18,7 +18,7 @@ pub loop-i-preserved : goal.loop-i-preserved
 loop-i-preserved c =
     let ws = c.args.wears.now in
     let l = c.loop-i in
-    (omega arith, l.invariant.1, ones-more ws l.i (omega arith) (omega (arith, c.if-wears-i-ne1.false)) l.invariant.2)
+    (omega arith, l.invariant.1, ones-more ws l.i (omega arith) (omega arith) l.invariant.2)
 
 pub returns : goal.returns
 returns c = let l = c.loop-i in ones-all _ l.i (omega arith) l.invariant.2

@@ -1,4 +1,5 @@
 -- `equations::list` meets its contract. Assumes nothing.
+use Prim.Native.Nat.{◌+◌, ◌≤◌, ◌<◌}
 use mathlib.Core.Path.{◌≡◌, sym, ap, ◌∙◌}
 use native.Mathlib.Omega.{arith}
 use lib.ListN.{length}
@@ -20,7 +21,8 @@ pub returns-then-k-m : goal.returns-then-k-m
 returns-then-k-m c =
     let known : GoodCard (card_of c.args.edition c.args.card.now) c.in-Good.k c.in-Good.m =
     good _ _ _ (ap check_report (sym c.in-Good.is) ∙ c.check.ensures) in
-    let g = known in record { result_value = outside-report _ _ _ _ g c.if-k-m.true _; out_after = outside_slice _ _ _ _ g c.if-k-m.true _ }
+    let past : c.in-Good.k + c.in-Good.m ≤ c.args.disk = omega arith in
+    record { result_value = outside-report _ _ _ _ known past _; out_after = outside_slice _ _ _ _ known past _ }
 
 pub columns-requires : goal.columns-requires
 columns-requires c =
@@ -32,7 +34,7 @@ pub list_columns-requires : goal.list_columns-requires
 list_columns-requires c =
     let known : GoodCard (card_of c.args.edition c.args.card.now) c.in-Good.k c.in-Good.m =
     good _ _ _ (ap check_report (sym c.in-Good.is) ∙ c.check.ensures) in
-    (rw c.columns.ensures (known).columns, c.if-k-m.false)
+    (rw c.columns.ensures (known).columns, omega arith)
 
 pub returns-in-Bad : goal.returns-in-Bad
 returns-in-Bad c =
@@ -48,6 +50,7 @@ returns-else-k-m c =
     let are = c.columns.ensures in
     let g = known in
     let a = c.args in
+    let below : a.disk < c.in-Good.k + c.in-Good.m = omega arith in
     let e : report v.result ≡ equations_report (card_of a.edition a.card.now) a.disk (length a.out.now) =
-    v.ensures.result_value ∙ rw are (good_report _ _ _ _ g _ c.if-k-m.false) in
+    v.ensures.result_value ∙ rw are (good_report _ _ _ _ g _ below) in
     record { result_value = e; out_after = v.ensures.out_after ∙ rw are (good_slice _ _ _ _ g _ _ e) }

@@ -54,7 +54,7 @@ returns-then-out-count c =
     let counted : get_or c.starts-places.result keys 0 ≡ length (equations (code_at) c.args.disk) =
     ap (λ (l : List ℕ). get_or l keys 0) (c.starts-places.ensures ∙ ap starts c.mark.ensures.value)
     ∙ starts-last _ _ _ _ (listed-is) in
-    record { result_value = list-short (equations (code_at) c.args.disk) _ _ (counted) c.if-out-count.true; out_after = refl }
+    record { result_value = list-short (equations (code_at) c.args.disk) _ _ (counted) (omega arith); out_after = refl }
 
 pub fill-requires : goal.fill-requires
 unfolding disks
@@ -93,4 +93,4 @@ returns c =
     let counted : get_or c.starts-places.result keys 0 ≡ length (equations (code_at) c.args.disk) =
     ap (λ (l : List ℕ). get_or l keys 0) (c.starts-places.ensures ∙ ap starts c.mark.ensures.value)
     ∙ starts-last _ _ _ _ (listed-is) in
-    record { result_value = list_fits (equations (code_at) c.args.disk) _ _ (counted) c.if-out-count.false; out_after = c.fill.ensures ∙ ap (λ (l : List ℕ). list_slice l c.args.out.now) (listed-is) }
+    record { result_value = list_fits (equations (code_at) c.args.disk) _ _ (counted) (omega arith); out_after = c.fill.ensures ∙ ap (λ (l : List ℕ). list_slice l c.args.out.now) (listed-is) }

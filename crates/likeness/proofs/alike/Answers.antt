@@ -52,7 +52,7 @@ returns-then-m-parity c =
     let known2 : GoodCard (secondAt) (dataAt) (parityAt) =
     good _ _ _ (c.in-Good-check.ensures) in
     alike_both _ _ _ _ (known) _ _ (known2) false
-    (parity-differs _ _ _ _ (known) _ _ (known2) (omega arith) (λ e. omega (arith, e, c.if-m-parity.true)))
+    (parity-differs _ _ _ _ (known) _ _ (known2) (λ e. omega (arith, e, c.if-m-parity.true)))
 
 pub columns-requires : goal.columns-requires
 columns-requires c =
@@ -123,7 +123,7 @@ returns-then-rearranged c =
     let decided : c.rearranged.result
     ≡ alike (code_in (k_at) (m_at) (column_bytes (first_at)))
     (code_in (dataAt) (parityAt) (column_bytes (secondAt))) =
-    columns-decide _ _ _ _ (known) _ _ (known2) (omega (arith, c.if-k-data.false)) (omega (arith, c.if-m-parity.false)) _ _
+    columns-decide _ _ _ _ (known) _ _ (known2) (omega arith) (omega arith) _ _
     c.columns.ensures c.columns-in-Good-check.ensures _ (c.rearranged.ensures _) in
     alike_both _ _ _ _ (known) _ _ (known2) true (sym c.if-rearranged.true ∙ decided)
 
@@ -166,6 +166,6 @@ returns-else-rearranged c =
     let decided : c.rearranged.result
     ≡ alike (code_in (k_at) (m_at) (column_bytes (first_at)))
     (code_in (dataAt) (parityAt) (column_bytes (secondAt))) =
-    columns-decide _ _ _ _ (known) _ _ (known2) (omega (arith, c.if-k-data.false)) (omega (arith, c.if-m-parity.false)) _ _
+    columns-decide _ _ _ _ (known) _ _ (known2) (omega arith) (omega arith) _ _
     c.columns.ensures c.columns-in-Good-check.ensures _ (c.rearranged.ensures _) in
     alike_both _ _ _ _ (known) _ _ (known2) false (sym c.if-rearranged.false ∙ decided)

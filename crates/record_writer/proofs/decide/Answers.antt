@@ -53,7 +53,7 @@ returns-then-room-t c =
     c.body_at-t.result ≡ body_at (strips_at (a.k + a.m) (card_length a.m)) a.l a.lost (a.k + a.m) =
     let a = c.args in
     c.body_at-t.ensures ∙ ap (λ (s : ℕ). body_at s a.l a.lost (a.k + a.m)) c.strips_at.ensures.0 in
-    written-short _ _ _ _ _ _ (good_length) (good-set) c.if-size-n.false _ (end) c.if-room-t.true
+    written-short _ _ _ _ _ _ (good_length) (good-set) c.if-size-n.false _ (end) (omega arith)
 
 pub returns : goal.returns
 returns c =

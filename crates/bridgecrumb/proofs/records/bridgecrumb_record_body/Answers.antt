@@ -2,7 +2,8 @@
 -- Assumes nothing.
 use mathlib.Core.Path.{◌≡◌, sym, ap, ap₂, ◌∙◌}
 use mathlib.Core.List.{[], ◌∷◌}
-use Prim.Native.Nat.{ℕ}
+use Prim.Native.Nat.{ℕ, ◌%◌}
+use native.Mathlib.Omega.{arith}
 use Rattle.record_format.specs.Faults.{body_report}
 use Rattle.export_bounds.specs.Coded.{coded}
 use Rattle.export_bounds.proofs.RecordValues.{body_fits}
@@ -17,7 +18,7 @@ returns-then-code-ne0 c =
     let told : let a = c.args in
     c.there_code-code.result ≡ coded (body_report a.file.now a.disk) =
     c.there_code-code.ensures ∙ ap coded c.body_place-found.ensures.check_value in
-    record { value = told; place_after = kept _ (body_fits _ _) _ (told) _ _ c.if-code-ne0.true }
+    record { value = told; place_after = kept _ (body_fits _ _) _ (told) _ _ (λ z. c.if-code-ne0.true (omega (arith, z))) }
 
 pub returns : goal.returns
 returns c =
@@ -25,7 +26,7 @@ returns c =
     c.there_code-code.result ≡ coded (body_report a.file.now a.disk) =
     c.there_code-code.ensures ∙ ap coded c.body_place-found.ensures.check_value in
     let b = c.body_place-found in
-    let left = c.if-code-ne0.false in record {
+    let left : c.there_code-code.result % 256 ≡ 0 = omega (arith, c.if-code-ne0.false) in record {
       value = told;
       place_after = ap₂ (λ (at len : ℕ). at ∷ len ∷ []) (b.ensures.at_value.0 ∙ sym (written _ (body_fits _ _) _ (told) _ _ left)) (b.ensures.at_value.1 ∙ sym (written _ (body_fits _ _) _ (told) _ _ left))
           ∙ written _ (body_fits _ _) _ (told) _ _ left;
