@@ -1,6 +1,5 @@
 -- `peeler::mend` meets its contract: the strips of one set for every target.
 -- Assumes nothing.
--- the set of a target's place
 use mathlib.Core.Path.{◌≡◌, ◌∙◌, subst}
 use Prim.Native.Nat.{ℕ}
 use borrow.Author.Rules.{rules}

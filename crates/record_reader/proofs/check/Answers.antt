@@ -1,6 +1,5 @@
 -- `record_reader::check` meets its contract.
 -- Assumes nothing.
--- ---- the mark
 use mathlib.Core.Path.{◌≡◌, sym, ap, ap₂, ◌∙◌, subst}
 use mathlib.Core.Bool.{true}
 use mathlib.Core.List.{List}
@@ -18,6 +17,7 @@ use Rattle.record_reader.proofs.Heads.{ten_bytes, entries_in, card_in, card_part
 use Rattle.record_reader.proofs.Answers.{Listed, bad_mark, bad_length, bad_entries, bad_card-entry, bad_body, bad_count, good_count}
 use Rattle.record_reader.proofs.check.Goals as goal
 
+-- ---- the mark
 pub returns-then-not-mark_ok : goal.returns-then-not-mark_ok
 returns-then-not-mark_ok c = bad_mark _ (sym c.mark_ok.ensures ∙ c.if-not-mark_ok.true)
 

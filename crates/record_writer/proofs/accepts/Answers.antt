@@ -1,6 +1,5 @@
 -- `record_writer::accepts` meets its contract: the number 0 is that of one answer.
 -- Assumes nothing.
--- the number of an answer, tested
 use mathlib.Core.Path.{sym, ap, ◌∙◌}
 use mathlib.Core.Bool.{Bool}
 use lib.Dec.{eqb}

@@ -1,6 +1,5 @@
 -- column meets its contract: after i turns the column has those of the first i data disks whose set has the disk.
 -- Assumes nothing.
--- does data disk i's set have disk j?
 use mathlib.Core.Path.{◌≡◌, refl, sym, ap, ◌∙◌}
 use mathlib.Core.Bool.{Bool}
 use mathlib.Core.List.{List}
@@ -13,6 +12,7 @@ use Rattle.flat.specs.Lists.{set_of}
 use Rattle.stepped_card.proofs.column.Goals as goal
 use Rattle.stepped_card.proofs.column.Goals.{else-has, then-has}
 
+-- does data disk i's set have disk j?
 abbrev named : List ℕ → ℕ → ℕ → Bool
 named sets j i = has (get_or sets i 0) j
 

@@ -1,6 +1,5 @@
 -- `strip_steady::fill_strip` meets its contract: each way has the same.
 -- Assumes nothing.
--- the strip of parity disk k + j is within the strips
 use mathlib.Core.Path.{◌≡◌, sym, ◌∙◌}
 use Prim.Native.Nat.{◌+◌, ◌*◌, ◌≤◌}
 use native.Mathlib.Nat.{add-mul}

@@ -1,6 +1,5 @@
 -- `text::put_listing` meets its contract: the first line, the sets' lines and the vector's line, one after the other.
 -- Assumes nothing.
--- the first line and the sets' lines have room
 use mathlib.Core.List.{[], ◌∷◌, ◌++◌}
 use Prim.Native.Nat.{◌+◌, ◌≤◌}
 use lib.ListN.{length}

@@ -1,6 +1,5 @@
 -- `record_reader::checks::card_entry_ok` meets its contract.
 -- Assumes nothing.
--- the contents have forty bytes at least
 use mathlib.Core.Path.{◌≡◌}
 use Prim.Native.Nat.{◌≤◌}
 use native.Mathlib.Omega.{arith}

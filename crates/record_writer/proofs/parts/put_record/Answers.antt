@@ -1,6 +1,5 @@
 -- `record_writer::parts::put_record` meets its contract: the parts are put one after the other.
 -- Assumes nothing.
--- the function's start, from where each part has been put
 use mathlib.Core.Path.{◌≡◌, ap, ap₂, ◌∙◌}
 use mathlib.Core.List.{List}
 use Prim.Native.Nat.{ℕ, ◌+◌, ◌*◌, ◌≤◌}

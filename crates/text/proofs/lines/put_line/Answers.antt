@@ -1,6 +1,5 @@
 -- `text::lines::put_line` meets its contract: the word, the numbers and the line end, one after the other.
 -- Assumes nothing.
--- the pieces have room
 use mathlib.Core.List.{◌++◌}
 use Prim.Native.Nat.{◌+◌, ◌≤◌}
 use lib.ListN.{length}
