@@ -1,74 +1,91 @@
 -- Rows and checks as the code makes them: disk after disk is added to a set.
 -- Assumes nothing.
-use mathlib.Core.Path.{◌≡◌, refl, sym, ap, ◌∙◌}
-use mathlib.Core.Bool.{Bool, true}
+use mathlib.Core.Path.{◌≡◌, sym, ap, ap₂, ◌∙◌, subst}
+use mathlib.Core.Bool.{Bool, true, false}
 use mathlib.Core.Logic.{◌⊎◌, inl, inr}
-use mathlib.Core.List.{List}
-use Prim.Native.Nat.{ℕ, suc, ◌+◌, ◌-◌, ◌*◌, ◌^◌, ◌≤◌, ◌<◌}
+use mathlib.Core.List.{List, [], ◌∷◌, ◌++◌}
+use Prim.Native.Nat.{ℕ, suc, ◌+◌, ◌-◌, ◌*◌, ◌%◌, ◌^◌, ◌≤◌, ◌<◌}
 use native.Mathlib.Nat.{add-zero, lt_of_lt_of_le}
 use native.Mathlib.Omega.{arith}
 use borrow.Author.Tests.{lt-ltb, le-ltb, ne_eqb}
+use native.Mathlib.Numerals.{add-one}
 use lib.Dec.{ltb, eqb}
+use lib.ListN.{length}
 use lib.Pow.{pow-lt, pow_mono}
 use Rattle.std.specs.Prelude.{if◌then◌else◌}
 use Rattle.gf2.specs.Sets.{bit, has, ◌⊕◌}
-use Rattle.gf2.proofs.Bits.{ext_below, bit-pow, bit_above, bit-⊕_bits}
+use Rattle.gf2.proofs.Bits.{ext_below, one_shifted, bit-pow, bit_above, bit-⊕_bits}
+use Rattle.gf2.proofs.Made.{add_fits}
 use Rattle.gf2.proofs.Tests.{below_or}
 use Rattle.gf2.proofs.Xor.{⊕_lt, ⊕-zero, zero-⊕}
 use Rattle.gf2.proofs.Sums.{if_has}
-use Rattle.flat.specs.Lists.{set_of, field}
-use Rattle.flat.specs.Cards.{Code, disks, column, code_in}
+use Rattle.flat.specs.Lists.{set_of, tabulate}
+use Rattle.flat.specs.Cards.{Code, disks, column}
 use Rattle.flat.specs.Checks.{row, check}
-use Rattle.flat.proofs.Cards.{column-at}
+use Rattle.flat.specs.Spans.{rows, checks}
+use Rattle.flat.proofs.Lists.{length-tabulate, tabulate-more}
+use Rattle.card.specs.Codes.{Legal}
 use Rattle.flat.proofs.Quantifiers.{set_lt, bit-set, add_power}
 
--- column j of the code whose columns stand in bytes
-column-field : (k m : ℕ) (bs : List ℕ) (j : ℕ) → j < m → column (code_in k m bs) j ≡ field (2 * j) 2 bs
-unfolding column
-column-field k m bs = column-at m bs
-
-module _ (k m i : ℕ) (bs : List ℕ) where
+module _ (C : Code) (i : ℕ) where
   -- is disk d in row i?
   unfoldable pub in_row : ℕ → Bool
-  in_row d = if ltb d k then eqb d i else has (column (code_in k m bs) (d - k)) i
+  in_row d = if ltb d C.k then eqb d i else has (column C (d - C.k)) i
 
-  pub row-start : i < k → 2 ^ i ≡ set_of (k + 0) in_row
+  pub row-start : i < C.k → 2 ^ i ≡ set_of (C.k + 0) in_row
   unfolding in_row
   row-start l =
-      ext_below k (2 ^ i) (set_of k in_row) (pow-lt l) (set_lt k in_row)
-      (λ d h. bit-pow i d ∙ (let e : ltb d k ≡ true = lt-ltb d k h in sym (bit-set k in_row d h ∙ rw e)))
-      ∙ ap (λ (n : ℕ). set_of n in_row) (sym (add-zero k))
+      ext_below C.k (2 ^ i) (set_of C.k in_row) (pow-lt l) (set_lt C.k in_row)
+      (λ d h. bit-pow i d ∙ (let e : ltb d C.k ≡ true = lt-ltb d C.k h in sym (bit-set C.k in_row d h ∙ rw e)))
+      ∙ ap (λ (n : ℕ). set_of n in_row) (sym (add-zero C.k))
 
   -- one parity disk more
-  pub row_more : (j r : ℕ) → j < m → r ≡ set_of (k + j) in_row
-      → r + (if has (field (2 * j) 2 bs) i then 2 ^ (k + j) else 0) ≡ set_of (k + (j + 1)) in_row
+  pub row_more : (j r : ℕ) → r ≡ set_of (C.k + j) in_row → r + (if has (column C j) i then 2 ^ (C.k + j) else 0) ≡ set_of (C.k + (j + 1)) in_row
   unfolding set_of in_row
-  row_more j r l e =
-      let d : k + j - k ≡ j = omega arith in
-      let p : in_row (k + j) ≡ has (field (2 * j) 2 bs) i = rw (le-ltb (k + j) k (omega arith), d, column-field k m bs j l) in
-      let n : k + (j + 1) ≡ suc (k + j) = omega arith in
+  row_more j r e =
+      let d : C.k + j - C.k ≡ j = omega arith in
+      let p : in_row (C.k + j) ≡ has (column C j) i = rw (le-ltb (C.k + j) C.k (omega arith), d) in
+      let n : C.k + (j + 1) ≡ suc (C.k + j) = omega arith in
       rw (n, e, ← p)
 
-  pub row_end : row (code_in k m bs) i ≡ set_of (k + m) in_row
+  -- as the code tests and adds it
+  module _ (j r : ℕ) (b : Bool) (e : r ≡ set_of (C.k + j) in_row) (test : b ≡ has (column C j) i) where
+    pub row_with : (k : ℕ) → k ≡ C.k → k + j < 32 → b ≡ true → r + 1 * 2 ^ (k + j) % 4294967296 ≡ set_of (C.k + (j + 1)) in_row
+    row_with k n l t =
+        ap (λ (x : ℕ). r + x) (one_shifted (k + j) l ∙ ap (λ (x : ℕ). 2 ^ (x + j)) n)
+        ∙ ap (λ (x : Bool). r + (if x then 2 ^ (C.k + j) else 0)) (sym t ∙ test) ∙ row_more j r e
+
+    pub row_without : b ≡ false → r ≡ set_of (C.k + (j + 1)) in_row
+    row_without t =
+        (let z : r ≡ r + 0 = omega arith in z) ∙ ap (λ (x : Bool). r + (if x then 2 ^ (C.k + j) else 0)) (sym t ∙ test) ∙ row_more j r e
+
+  pub row_fits : (j r k : ℕ) → k ≡ C.k → k + j < 32 → r ≡ set_of (C.k + j) in_row → r + 1 * 2 ^ (k + j) % 4294967296 < 2 ^ 32
+  row_fits j r k n l e =
+      rw (one_shifted (k + j) l)
+      (add_fits 32 (k + j) r (subst (λ (x : ℕ). r < 2 ^ (x + j)) (sym n) (subst (λ (x : ℕ). x < 2 ^ (C.k + j)) (sym e) (set_lt (C.k + j) in_row))) l)
+
+  pub row_end : (m : ℕ) → m ≡ C.m → set_of (C.k + m) in_row ≡ row C i
   unfolding row in_row disks
-  row_end = refl
+  row_end m e = rw e
 
 -- check j is its column and its parity disk
-pub check-sum : (k m j : ℕ) (bs : List ℕ) → j < m → field (2 * j) 2 bs < 2 ^ k
-    → field (2 * j) 2 bs + 2 ^ (k + j) ≡ check (code_in k m bs) j
+pub check-sum : (C : Code) (j : ℕ) → j < C.m → column C j < 2 ^ C.k → column C j + 2 ^ (C.k + j) ≡ check C j
 unfolding check disks
-check-sum k m j bs l h =
+check-sum C j l h =
     add_power (k + j) c low
     ∙ ext_below (k + m) (c ⊕ 2 ^ (k + j)) (check C j)
     (⊕_lt (k + m) c (2 ^ (k + j)) (lt_of_lt_of_le h (pow_mono (let z : k ≤ k + m = omega arith in z))) (pow-lt (omega arith)))
     (set_lt (k + m) in_check)
     (λ d n. bit-⊕_bits c (2 ^ (k + j)) d ∙ ap (λ (x : ℕ). bit c d ⊕ x) (bit-pow (k + j) d) ∙ at d (below_or d k) ∙ sym (bit-set (k + m) in_check d n))
   where
-    C : Code
-    C = code_in k m bs
+    k : ℕ
+    k = C.k
+
+    m : ℕ
+    m = C.m
 
     c : ℕ
-    c = field (2 * j) 2 bs
+    c = column C j
 
     in_check : ℕ → Bool
     in_check d = if ltb d k then has (column C j) d else eqb d (k + j)
@@ -79,5 +96,38 @@ check-sum k m j bs l h =
     at : (d : ℕ) → (d < k) ⊎ (k ≤ d) → bit c d ⊕ (if eqb d (k + j) then 1 else 0) ≡ (if in_check d then 1 else 0)
     at d (inl n) =
         let f : (d ≡ k + j) → ⊥ = λ e. omega arith in
-        rw (lt-ltb d k n, ne_eqb d (k + j) f, column-field k m bs j l) (⊕-zero (bit c d) ∙ sym (if_has c d))
+        rw (lt-ltb d k n, ne_eqb d (k + j) f) (⊕-zero (bit c d) ∙ sym (if_has c d))
     at d (inr n) = rw (le-ltb d k n, bit_above k c d h n) (zero-⊕ (if eqb d (k + j) then 1 else 0))
+
+-- as the code adds it
+pub check_added : (C : Code) (j k c : ℕ) → Legal C → j < C.m → k ≡ C.k → c ≡ column C j → c + 1 * 2 ^ (k + j) % 4294967296 ≡ check C j
+check_added C j k c h l n e =
+    ap₂ ◌+◌ e (one_shifted (k + j) (omega arith) ∙ ap (λ (x : ℕ). 2 ^ (x + j)) n) ∙ check-sum C j l (h.5 j l)
+
+-- a code's rows and checks are as many as its disks, and one more of a table stands at its end
+module _ (C : Code) where
+  pub count_rows : length (rows C) ≡ C.k
+  unfolding rows
+  count_rows = length-tabulate C.k (row C)
+
+  pub count_checks : length (checks C) ≡ C.m
+  unfolding checks
+  count_checks = length-tabulate C.m (check C)
+
+  pub all_rows : (n : ℕ) → n ≡ C.k → tabulate n (row C) ≡ rows C
+  unfolding rows
+  all_rows n e = ap (λ (i : ℕ). tabulate i (row C)) e
+
+  pub all_checks : (n : ℕ) → n ≡ C.m → tabulate n (check C) ≡ checks C
+  unfolding checks
+  all_checks n e = ap (λ (i : ℕ). tabulate i (check C)) e
+
+pub none_yet : (f : ℕ → ℕ) (ws : List ℕ) → ws ≡ [] → ws ≡ tabulate 0 f
+unfolding tabulate
+none_yet f ws e = e
+
+pub one_more : (f : ℕ → ℕ) (j w : ℕ) (ws : List ℕ) → ws ≡ tabulate j f → w ≡ f j → ws ++ w ∷ [] ≡ tabulate (j + 1) f
+one_more f j w ws e g = ap₂ (λ (l : List ℕ) (x : ℕ). l ++ x ∷ []) e g ∙ sym (ap (λ (i : ℕ). tabulate i f) (add-one j) ∙ tabulate-more j f)
+
+pub length-table : (f : ℕ → ℕ) (j : ℕ) (ws : List ℕ) → ws ≡ tabulate j f → length ws ≡ j
+length-table f j ws e = ap length e ∙ length-tabulate j f

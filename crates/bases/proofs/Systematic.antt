@@ -1,12 +1,11 @@
 -- The rows and the checks of a code are systematic: row i alone has data disk i, and check j alone has parity disk k + j.
 -- Assumes nothing.
 use mathlib.Core.Path.{◌≡◌, refl, sym, ap, ◌∙◌, subst}
-use mathlib.Core.List.{List}
-use Prim.Native.Nat.{ℕ, ◌+◌, ◌^◌, ◌≤◌, ◌<◌}
+use Prim.Native.Nat.{ℕ, ◌+◌, ◌^◌, ◌<◌}
 use native.Mathlib.Omega.{arith}
 use borrow.Author.Tests.{eq-eqb, ne_eqb}
 use lib.Dec.{eqb}
-use lib.ListN.{length, get_or, take}
+use lib.ListN.{length, get_or}
 use Rattle.std.specs.Prelude.{if◌then◌else◌}
 use Rattle.gf2.specs.Sets.{bit}
 use Rattle.flat.specs.Lists.{tabulate}
@@ -15,8 +14,10 @@ use Rattle.flat.specs.Checks.{row, check}
 use Rattle.flat.specs.Spans.{rows, checks}
 use Rattle.flat.proofs.Lists.{length-tabulate, get_d_tabulate}
 use Rattle.flat.proofs.Rows.{row_lt, row_data, check_lt, check-parity}
+use Rattle.card.specs.Codes.{Legal}
 use Rattle.minimal_words.specs.Systematic.{Systematic}
 use Rattle.minimal_words.specs.Listed.{Listable}
+use Rattle.bases.proofs.Adding.{count_rows, count_checks}
 
 -- a table of which entry j has disk p i where j is i, and else not
 table_systematic : (n c : ℕ) (f p : ℕ → ℕ) → ((j i : ℕ) → i < c → bit (f j) (p i) ≡ (if eqb i j then 1 else 0)) → ((j : ℕ) → f j < 2 ^ n)
@@ -43,11 +44,13 @@ pub checks_systematic : (C : Code) → Systematic (disks C) (checks C)
 unfolding checks
 checks_systematic C = table_systematic (disks C) C.m (check C) (λ i. C.k + i) (check-parity C) (check_lt C)
 
--- ---- what is taken of a basis whose first c rows are known, and that it can be marked
+-- ---- they may be listed
 
-module _ (c count : ℕ) (bs out : List ℕ) (e : count ≡ c) (f : take c out ≡ bs) where
-  pub taken : take count out ≡ bs
-  taken = ap (λ (n : ℕ). take n out) e ∙ f
+module _ (C : Code) (legal : Legal C) where
+  pub rows_listable : Listable (disks C) (rows C)
+  unfolding disks
+  rows_listable = let n = count_rows C in (omega arith, omega arith, omega arith, rows_systematic C)
 
-  pub listable : (n : ℕ) → c ≤ 16 → n ≤ 32 → n ≤ c + 16 → Systematic n bs → Listable n count out
-  listable n hc hn h s = (omega arith, hn, omega arith, subst (Systematic n) (sym taken) s)
+  pub checks_listable : Listable (disks C) (checks C)
+  unfolding disks
+  checks_listable = let n = count_checks C in (omega arith, omega arith, omega arith, checks_systematic C)

@@ -1,57 +1,62 @@
-// The rows and the checks of a code, out of the bytes of a card's columns. Document 01's questions about
-// a code are questions about the spans of these (flat/specs/Theorems.antt).
+// The rows and the checks of a code. Document 01's questions about a code are questions about the spans of
+// these (flat/specs/Theorems.antt).
 //
-// The columns are those of an accepted card.
+// The code is that of an accepted card.
 #![tactic(auto)]
 
-ghost use Rattle.std.specs.Prelude.{◌≡◌, ◌<◌, take};
-ghost use Rattle.flat.specs.Cards.{code_in};
-ghost use Rattle.flat.specs.Checks.{row};
+ghost use Rattle.std.specs.Prelude.{◌≡◌, ◌<◌, length};
+ghost use Rattle.flat.specs.Checks.{row, check};
 ghost use Rattle.flat.specs.Spans.{rows, checks};
-ghost use Rattle.card.specs.Columns.{Columns};
+ghost use Rattle.card.specs.Codes.{Legal};
 
+use card::Code;
 use gf2::Basis;
 
 // Row i: data disk i with the parity disks whose column names it.
-fn row(columns: &[u8], k: usize, m: usize, i: usize) -> u32
-    requires { Columns k m columns.now × (i < k) }
-    ensures { result ≡ row (code_in k m columns.now) i }
+fn row(code: &Code<'_>, i: usize) -> u32
+    requires { i < code.now.k }
+    ensures { result ≡ row code.now i }
 {
-    let mut r = 1u32 << i;
-    for j in 0..m {
-        if gf2::has(card::column(columns, j) as u32, i as u32) {
-            r = r + (1u32 << (k + j));
+    let k = code.k();
+    let mut row = 1u32 << i;
+    for j in 0..code.m() {
+        if gf2::has(code.column(j) as u32, i as u32) {
+            row += 1u32 << (k + j);
         }
     }
-    r
+    row
 }
 
 // The rows, which span the codewords.
-pub fn rows(columns: &[u8], k: usize, m: usize) -> Basis
-    requires { Columns k m columns.now }
-    ensures { (result.count ≡ k) × (take k result.rows ≡ rows (code_in k m columns.now)) }
+pub fn rows(code: &Code<'_>) -> Basis
+    ensures value { result ≡ rows code.now }
+    ensures count { length result ≡ code.now.k }
+    ensures legal { Legal code.now }
 {
-    let mut out = [0u32; 16];
-    for i in 0..k {
-        out[i] = row(columns, k, m, i);
+    let mut rows = Basis::new();
+    for i in 0..code.k() {
+        rows.push(row(code, i));
     }
-    Basis {
-        rows: out,
-        count: k,
-    }
+    rows
 }
 
-// The checks, which span the sets whose bits XOR to 0: parity disk k + j with its data disks.
-pub fn checks(columns: &[u8], k: usize, m: usize) -> Basis
-    requires { Columns k m columns.now }
-    ensures { (result.count ≡ m) × (take m result.rows ≡ checks (code_in k m columns.now)) }
+// Check j: parity disk k + j with its data disks.
+fn check(code: &Code<'_>, j: usize) -> u32
+    requires { j < code.now.m }
+    ensures { result ≡ check code.now j }
 {
-    let mut out = [0u32; 16];
-    for j in 0..m {
-        out[j] = (card::column(columns, j) as u32) + (1u32 << (k + j));
+    code.column(j) as u32 + (1u32 << (code.k() + j))
+}
+
+// The checks, which span the sets whose bits XOR to 0.
+pub fn checks(code: &Code<'_>) -> Basis
+    ensures value { result ≡ checks code.now }
+    ensures count { length result ≡ code.now.m }
+    ensures legal { Legal code.now }
+{
+    let mut checks = Basis::new();
+    for j in 0..code.m() {
+        checks.push(check(code, j));
     }
-    Basis {
-        rows: out,
-        count: m,
-    }
+    checks
 }

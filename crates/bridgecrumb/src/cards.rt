@@ -7,12 +7,12 @@ ghost use Rattle.editions.specs.Converting.{up_report, up_buffer, down_report, d
 ghost use Rattle.stepped_codes.specs.Faults.{stepped_report, stepped_buffer};
 ghost use Rattle.export_bounds.specs.Coded.{coded, coded_fault, named};
 
-use card::CardCheck;
 use export_codes::{
     converted_code, edition, fault_code, likeness_code, stepped_code, written_code,
 };
 
 // The card reader: k and m, the columns, then zeros, and the wears, then zeros. A refused call writes nothing.
+#[tactic(auto, using(export_bounds::proofs::Values::card_fits))]
 #[unsafe(no_mangle)]
 pub extern "C" fn bridgecrumb_card_read(
     second: bool,
@@ -26,18 +26,16 @@ pub extern "C" fn bridgecrumb_card_read(
     ensures columns_after { columns.new ≡ unless_refused (card_report (card_of (named second) card.now)) (card_columns (card_of (named second) card.now)) columns.old }
     ensures wears_after { wears.new ≡ unless_refused (card_report (card_of (named second) card.now)) (card_wears (card_of (named second) card.now)) wears.old }
 {
-    let read = card::read(edition(second), card);
-    let check = read.check;
-    let found = read.columns;
-    let worn = read.wears;
-    match check {
-        CardCheck::Good { k, m } => {
-            *counts = [k, m];
+    match card::read(edition(second), card) {
+        Ok(read) => {
+            let found = read.columns;
+            let worn = read.wears;
+            *counts = [read.k, read.m];
             *columns = found;
             *wears = worn;
             0
         }
-        CardCheck::Bad(fault) => fault_code(fault),
+        Err(fault) => fault_code(fault),
     }
 }
 
@@ -60,6 +58,7 @@ pub extern "C" fn bridgecrumb_card_write(
 
 // The converter, up from edition 1: the card in edition 2, with wear 1 for each disk, into a buffer of exactly its
 // length. A refused call writes nothing.
+#[tactic(auto, using(export_bounds::proofs::EditionValues::up_fits))]
 #[unsafe(no_mangle)]
 pub extern "C" fn bridgecrumb_card_up(card: &[u8], out: &mut [u8]) -> u64
     ensures value { result ≡ coded (up_report card.now (length out.old)) }
@@ -70,6 +69,7 @@ pub extern "C" fn bridgecrumb_card_up(card: &[u8], out: &mut [u8]) -> u64
 
 // The converter, down from edition 2 where each wear is 1: the card in edition 1 into a buffer of exactly its
 // length. A refused call writes nothing.
+#[tactic(auto, using(export_bounds::proofs::EditionValues::down_fits))]
 #[unsafe(no_mangle)]
 pub extern "C" fn bridgecrumb_card_down(card: &[u8], out: &mut [u8]) -> u64
     ensures value { result ≡ coded (down_report card.now (length out.old)) }
@@ -90,6 +90,7 @@ pub extern "C" fn bridgecrumb_card_stepped(d: usize, m: usize, k: usize, out: &m
 
 // Whether two cards are alike: the first is in the second edition where a says so, and the other where b does. The
 // first card's refusals come before the other's.
+#[tactic(auto, using(export_bounds::proofs::Values::alike_fits))]
 #[unsafe(no_mangle)]
 pub extern "C" fn bridgecrumb_alike(a: bool, first: &[u8], b: bool, other: &[u8]) -> u64
     ensures { result ≡ coded (alike_report (card_of (named a) first.now) (card_of (named b) other.now)) }

@@ -28,6 +28,7 @@ mod turns;
 
 // The encoder: the parity strips of the stripe, each byte the XOR of the same byte of its data disks. A
 // refused call writes nothing.
+#[tactic(auto, using(export_bounds::proofs::Values::encode_fits))]
 #[unsafe(no_mangle)]
 pub extern "C" fn bridgecrumb_encode(second: bool, card: &[u8], l: usize, stripe: &mut [u8]) -> u64
     ensures value { result ≡ coded (encode_report (card_of (named second) card.now) l (length stripe.old)) }
@@ -38,6 +39,7 @@ pub extern "C" fn bridgecrumb_encode(second: bool, card: &[u8], l: usize, stripe
 
 // The update: the strip of the data disk becomes the new one, and each byte of the parities that name the
 // disk is XORed with the old and the new data byte. A refused call writes nothing.
+#[tactic(auto, using(export_bounds::proofs::UpdateValues::update_fits))]
 #[unsafe(no_mangle)]
 pub extern "C" fn bridgecrumb_update(
     second: bool,
@@ -55,6 +57,7 @@ pub extern "C" fn bridgecrumb_update(
 
 // The verdict call: the disks of the set that the survivors don't determine. The loss of the set is fatal where
 // there is such a disk.
+#[tactic(auto, using(export_bounds::proofs::Values::verdict_fits))]
 #[unsafe(no_mangle)]
 pub extern "C" fn bridgecrumb_verdict(second: bool, card: &[u8], set: u32) -> u64
     ensures { result ≡ coded (verdict_report (card_of (named second) card.now) set) }
@@ -64,6 +67,7 @@ pub extern "C" fn bridgecrumb_verdict(second: bool, card: &[u8], set: u32) -> u6
 
 // The lister: all minimal erasures into the slice, smaller size first, then smaller data part, and how
 // many of them hold i disks into place i - 1 of the vector. A refused call writes nothing.
+#[tactic(auto, using(export_bounds::proofs::Values::erasures_fits))]
 #[unsafe(no_mangle)]
 pub extern "C" fn bridgecrumb_list(
     second: bool,
@@ -75,19 +79,19 @@ pub extern "C" fn bridgecrumb_list(
     ensures out_after { out.new ≡ erasures_slice (card_of (named second) card.now) out.old }
     ensures vector_after { vector.new ≡ unless_refused (erasures_report (card_of (named second) card.now) (length out.old)) (erasures_vector (card_of (named second) card.now) (length out.old)) vector.old }
 {
-    let listing = erasures::list(edition(second), card, out);
-    let answer = listing.answer;
-    let counts = listing.vector;
-    let code = listed_code(answer);
-    if code % 256 != 0 {
-        return code;
+    match erasures::list(edition(second), card, out) {
+        Ok(listing) => {
+            let counts = listing.vector;
+            *vector = counts;
+            listed_code(Ok(listing))
+        }
+        Err(error) => listed_code(Err(error)),
     }
-    *vector = counts;
-    code
 }
 
 // The equation call: the equations of the disk into the slice, smaller size first, then fewer parity
 // disks, then smaller set number. A refused call writes nothing.
+#[tactic(auto, using(export_bounds::proofs::Values::equations_fits))]
 #[unsafe(no_mangle)]
 pub extern "C" fn bridgecrumb_equations(
     second: bool,
@@ -102,6 +106,7 @@ pub extern "C" fn bridgecrumb_equations(
 }
 
 // The least-wear call: of the equations of the disk among the survivors, the one with the least total wear.
+#[tactic(auto, using(export_bounds::proofs::WearValues::least_wear_fits))]
 #[unsafe(no_mangle)]
 pub extern "C" fn bridgecrumb_least_wear(second: bool, card: &[u8], disk: usize, lost: u32) -> u64
     ensures { result ≡ coded (least_wear_report (card_of (named second) card.now) disk lost) }
@@ -111,6 +116,7 @@ pub extern "C" fn bridgecrumb_least_wear(second: bool, card: &[u8], disk: usize,
 
 // The rebuilder: the lost strips become those of the only content that agrees with the survivors. A
 // refused call writes nothing.
+#[tactic(auto, using(export_bounds::proofs::Values::rebuild_fits))]
 #[unsafe(no_mangle)]
 pub extern "C" fn bridgecrumb_rebuild(
     second: bool,
@@ -128,6 +134,7 @@ pub extern "C" fn bridgecrumb_rebuild(
 // A partial rebuild: the lost strips that the survivors determine become those of any content that agrees with
 // them, and the other strips keep their bytes. The value is the set of lost disks that they don't determine.
 // A refused call writes nothing.
+#[tactic(auto, using(export_bounds::proofs::PartialValues::partial_fits))]
 #[unsafe(no_mangle)]
 pub extern "C" fn bridgecrumb_partial_rebuild(
     second: bool,

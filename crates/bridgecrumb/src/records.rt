@@ -6,9 +6,10 @@ ghost use Rattle.record_format.specs.Faults.{record_write_report, record_write_o
 ghost use Rattle.export_bounds.specs.Coded.{coded, coded_fault};
 
 use export_codes::{record_fault_code, record_written_code, there_code};
-use record::RecordCheck;
+use record::RecordRead;
 
 // The record writer: the record of the stripe at the output's front. A refused call writes nothing.
+#[tactic(auto, using(export_bounds::proofs::RecordValues::record_write_fits))]
 #[unsafe(no_mangle)]
 pub extern "C" fn bridgecrumb_record_write(
     card: &[u8],
@@ -25,6 +26,7 @@ pub extern "C" fn bridgecrumb_record_write(
 
 // The record reader: k, m, the strips' length and the lost set, and the columns, then zeros. A refused
 // call writes nothing.
+#[tactic(auto, using(export_bounds::proofs::RecordValues::record_fits))]
 #[unsafe(no_mangle)]
 pub extern "C" fn bridgecrumb_record_read(
     file: &[u8],
@@ -35,34 +37,31 @@ pub extern "C" fn bridgecrumb_record_read(
     ensures fields_after { fields.new ≡ unless_refused (record_report file.now) (record_report file.now).values fields.old }
     ensures columns_after { columns.new ≡ unless_refused (record_report file.now) (record_columns file.now) columns.old }
 {
-    let read = record::read(file);
-    let check = read.check;
-    let found = read.columns;
-    match check {
-        RecordCheck::Good { k, m, l, lost } => {
+    match record::read(file) {
+        Ok(read) => {
+            let RecordRead { k, m, l, lost, .. } = read;
+            let found = read.columns;
             *fields = [k, m, l, lost as usize];
             *columns = found;
             0
         }
-        RecordCheck::Bad(fault) => record_fault_code(fault),
+        Err(fault) => record_fault_code(fault),
     }
 }
 
 // Where the disk's strip starts in the file, and its length: a part of a slice cannot be handed to C. A
 // refused call writes nothing.
+#[tactic(auto, using(export_bounds::proofs::RecordValues::body_fits))]
 #[unsafe(no_mangle)]
 pub extern "C" fn bridgecrumb_record_body(file: &[u8], disk: usize, place: &mut [usize; 2]) -> u64
     ensures value { result ≡ coded (body_report file.now disk) }
     ensures place_after { place.new ≡ unless_refused (body_report file.now disk) (offset_in file.now (suc disk) ∷ body_length_in file.now (suc disk) ∷ []) place.old }
 {
-    let found = record::body_place(file, disk);
-    let check = found.check;
-    let at = found.at;
-    let len = found.len;
-    let code = there_code(check);
-    if code % 256 != 0 {
-        return code;
+    match record::body_place(file, disk) {
+        Ok(found) => {
+            *place = [found.at, found.len];
+            there_code(Ok(found))
+        }
+        Err(error) => there_code(Err(error)),
     }
-    *place = [at, len];
-    code
 }

@@ -9,6 +9,7 @@ use export_codes::{edition, repaired_code};
 
 // Quick repair: the stripes of a tray in turn, each step by step until it sticks, within one budget of steps,
 // and what is left of each set into `left`. A refused call writes nothing.
+#[tactic(auto, using(export_bounds::proofs::TrayValues::tray_fits))]
 #[unsafe(no_mangle)]
 pub extern "C" fn bridgecrumb_quick_repair(
     second: bool,
@@ -23,13 +24,12 @@ pub extern "C" fn bridgecrumb_quick_repair(
     ensures tray_after { tray.new ≡ tray_bytes (card_of (named second) card.now) l budget sets.now tray.old }
     ensures left_after { left.new ≡ unless_refused (tray_report (card_of (named second) card.now) l budget sets.now tray.old) (tray_lefts (card_of (named second) card.now) l budget sets.now tray.old) left.old }
 {
-    let repair = tray::repair(edition(second), card, l, sets, budget, tray);
-    let answer = repair.answer;
-    let sets_left = repair.left;
-    let code = repaired_code(answer);
-    if code % 256 != 0 {
-        return code;
+    match tray::repair(edition(second), card, l, sets, budget, tray) {
+        Ok(repaired) => {
+            let sets_left = repaired.left;
+            *left = sets_left;
+            repaired_code(Ok(repaired))
+        }
+        Err(error) => repaired_code(Err(error)),
     }
-    *left = sets_left;
-    code
 }

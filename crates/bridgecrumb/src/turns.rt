@@ -8,6 +8,7 @@ use export_codes::{edition, rebuilt_code, turned_code};
 
 // Turns a stripe into a second buffer: slot (i + r) modulo n gets the strip of disk i. A refused call writes
 // nothing.
+#[tactic(auto, using(export_bounds::proofs::TurnValues::turn_fits))]
 #[unsafe(no_mangle)]
 pub extern "C" fn bridgecrumb_turn(
     second: bool,
@@ -24,6 +25,7 @@ pub extern "C" fn bridgecrumb_turn(
 }
 
 // Turns it back: disk i gets the strip of slot (i + r) modulo n. A refused call writes nothing.
+#[tactic(auto, using(export_bounds::proofs::TurnValues::turn_fits))]
 #[unsafe(no_mangle)]
 pub extern "C" fn bridgecrumb_turn_back(
     second: bool,
@@ -41,6 +43,7 @@ pub extern "C" fn bridgecrumb_turn_back(
 
 // The turned rebuild, in place: the lost slots of stripe r get the strips that the only content which agrees with
 // the survivors gives their disks. A refused call writes nothing.
+#[tactic(auto, using(export_bounds::proofs::TurnValues::turned_fits))]
 #[unsafe(no_mangle)]
 pub extern "C" fn bridgecrumb_rebuild_turned(
     second: bool,

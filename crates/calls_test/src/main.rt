@@ -4,9 +4,9 @@
 #![tactic(auto)]
 
 use card::{CardFault, Edition};
-use equations::Told;
+use equations::EquationsError;
 use std::io;
-use verdicts::SetVerdict;
+use verdicts::VerdictError;
 
 // C1, C3 and C6 of document 01; of C6, data disk 1 is in no column.
 const C1: [u8; 8] = [4, 3, 7, 0, 11, 0, 13, 0];
@@ -37,7 +37,7 @@ fn say_number(rt: &impl Print, word: &[u8], number: usize) -> io::Result<()> {
 fn say_fault(rt: &impl Print, fault: CardFault) -> io::Result<()> {
     match fault {
         CardFault::Column(j) => say_number(rt, b"refused 5 column ", j),
-        _ => say_number(rt, b"refused ", card::number(fault)),
+        _ => say_number(rt, b"refused ", fault.number()),
     }
 }
 
@@ -52,24 +52,20 @@ fn list(rt: &impl Print, card: &[u8]) -> io::Result<()> {
 // The verdict on a set.
 fn judge(rt: &impl Print, card: &[u8], set: u32) -> io::Result<()> {
     match verdicts::verdict(Edition::First, card, set) {
-        SetVerdict::Undetermined(undetermined) => say_number(
-            rt,
-            b"undetermined ",
-            undetermined as usize,
-        )?,
-        SetVerdict::OutsideSet => say(rt, b"refused 8")?,
-        SetVerdict::Card(fault) => say_fault(rt, fault)?,
+        Ok(undetermined) => say_number(rt, b"undetermined ", undetermined as usize)?,
+        Err(VerdictError::OutsideSet) => say(rt, b"refused 8")?,
+        Err(VerdictError::Card(fault)) => say_fault(rt, fault)?,
     }
     say(rt, b"\n")
 }
 
 // The equation call's answer.
-fn say_told(rt: &impl Print, told: Told) -> io::Result<()> {
+fn say_told(rt: &impl Print, told: Result<usize, EquationsError>) -> io::Result<()> {
     match told {
-        Told::Count(count) => say_number(rt, b"count ", count),
-        Told::Card(fault) => say_fault(rt, fault),
-        Told::NoDisk => say(rt, b"refused 9"),
-        Told::Short(count) => say_number(rt, b"refused 10 count ", count),
+        Ok(count) => say_number(rt, b"count ", count),
+        Err(EquationsError::Card(fault)) => say_fault(rt, fault),
+        Err(EquationsError::NoDisk) => say(rt, b"refused 9"),
+        Err(EquationsError::Short(count)) => say_number(rt, b"refused 10 count ", count),
     }
 }
 
@@ -79,13 +75,11 @@ fn say_slot(rt: &impl Print, slot: u32) -> io::Result<()> {
 }
 
 // That answer and every slot, so that what is past the count, or lent to a refused call, is seen to stay.
-fn show(rt: &impl Print, told: Told, slots: [u32; 5]) -> io::Result<()> {
+fn show(rt: &impl Print, told: Result<usize, EquationsError>, slots: &[u32]) -> io::Result<()> {
     say_told(rt, told)?;
-    say_slot(rt, slots[0])?;
-    say_slot(rt, slots[1])?;
-    say_slot(rt, slots[2])?;
-    say_slot(rt, slots[3])?;
-    say_slot(rt, slots[4])?;
+    for slot in slots {
+        say_slot(rt, *slot)?;
+    }
     say(rt, b"\n")
 }
 
@@ -93,24 +87,22 @@ fn show(rt: &impl Print, told: Told, slots: [u32; 5]) -> io::Result<()> {
 fn tell(rt: &impl Print, card: &[u8], disk: usize) -> io::Result<()> {
     let mut slots = [99u32; 5];
     let told = equations::list(Edition::First, card, disk, &mut slots);
-    show(rt, told, slots)
+    show(rt, told, &slots)
 }
 
 // Into the first three of them.
 fn tell_short(rt: &impl Print, card: &[u8], disk: usize) -> io::Result<()> {
     let mut slots = [99u32; 5];
     let told = equations::list(Edition::First, card, disk, &mut slots[..3]);
-    show(rt, told, slots)
+    show(rt, told, &slots)
 }
 
 // The equations of disks 0 to 5.
 fn tell_six(rt: &impl Print, card: &[u8]) -> io::Result<()> {
-    tell(rt, card, 0)?;
-    tell(rt, card, 1)?;
-    tell(rt, card, 2)?;
-    tell(rt, card, 3)?;
-    tell(rt, card, 4)?;
-    tell(rt, card, 5)
+    for disk in 0..6 {
+        tell(rt, card, disk)?;
+    }
+    Ok(())
 }
 
 // C1, C3, C4 and C5, each refusal of a card, and a list that is too long.

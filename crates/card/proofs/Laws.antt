@@ -7,11 +7,10 @@ use Prim.Native.Nat.{ℕ, ◌≤◌, ◌<◌}
 use native.Mathlib.Omega.{arith}
 use borrow.Author.Tests.{lt-ltb}
 use lib.Dec.{eqb}
-use lib.ListN.{get_or, replicate}
+use lib.ListN.{get_or}
 use Rattle.std.specs.Prelude.{if◌then◌else◌}
-use Rattle.flat.specs.Lists.{padded}
-use Rattle.flat.specs.Cards.{Code, count_ok, first_bad, Card, code_of, wears_of}
-use Rattle.flat.specs.Faults.{Report, refused, unless_refused, code_report, card_report, card_columns, card_wears}
+use Rattle.flat.specs.Cards.{Code, count_ok, first_bad}
+use Rattle.flat.specs.Faults.{Report, refused, unless_refused, code_report}
 use Rattle.flat.proofs.Reports.{unless_other}
 use Rattle.flat.proofs.Cards.{sound-report}
 use Rattle.card.specs.declared.CardFault.{CardFault}
@@ -77,12 +76,3 @@ fault-back f = (fault-told f).1
 module _ {A : Type 0} where
   pub unless_fault : (f : CardFault) (r : Report) (new old : A) → fault_report f ≡ r → unless_refused r new old ≡ old
   unless_fault f r new old e = sym (unless_other r new old (ap (λ (x : Report). eqb x.number 0) (sym e) ∙ fault_refuses f))
-
--- a refused card has no columns and no wears
-pub columns-refused : (card : Card) (f : CardFault) → fault_report f ≡ card_report card → replicate 16 0 ≡ card_columns card
-unfolding card_columns padded
-columns-refused card f e = sym (ap (padded 16) (unless_fault f (card_report card) (code_of card).columns [] e))
-
-pub wears-refused : (card : Card) (f : CardFault) → fault_report f ≡ card_report card → replicate 32 0 ≡ card_wears card
-unfolding card_wears padded
-wears-refused card f e = sym (ap (padded 32) (unless_fault f (card_report card) (wears_of card) [] e))

@@ -1,6 +1,9 @@
+pub mod Inside
 pub mod Laws
 pub mod Places
 pub mod Tested
-pub mod Loops
+pub mod Searching
+pub mod Filled
 pub mod Theorems
 pub mod Callers
+pub mod Checked

@@ -1,51 +1,16 @@
--- Where the parts of an edition stand: each case of the functions that know it.
+-- Where the parts of an edition stand.
 -- Assumes nothing.
 use mathlib.Core.Path.{◌≡◌, sym, ap, ◌∙◌}
-use mathlib.Core.Bool.{true}
-use mathlib.Core.List.{List, []}
+use mathlib.Core.List.{List}
 use Prim.Native.Nat.{ℕ, ◌+◌, ◌-◌, ◌*◌, ◌≤◌}
 use native.Mathlib.Omega.{arith}
-use lib.Dec.{eqb}
 use lib.ListN.{length, get_or, take, drop, replicate}
 use Rattle.flat.specs.declared.Edition.{Edition}
 use Rattle.flat.specs.declared.Edition.TheVariants.{First, Second}
 use Rattle.flat.specs.Lists.{padded}
-use Rattle.flat.specs.Cards.{code, start, first_byte_ok, card_length, edition_length, wear_count, card_of, parity_count, column_bytes, code_of, disks, each_wear, wears_of}
+use Rattle.flat.specs.Cards.{code, start, card_length, edition_length, wear_count, card_of, parity_count, column_bytes, code_of, disks, each_wear, wears_of}
 use Rattle.flat.proofs.Lists.{rest}
 use Rattle.card.specs.Editions.{held_bytes}
-
-module _ (e : Edition) where
-  pub start_first : e ≡ First → 0 ≡ start e
-  unfolding start
-  start_first is = rw is
-
-  pub start_second : e ≡ Second → 1 ≡ start e
-  unfolding start
-  start_second is = rw is
-
-  pub begins-first : (bs : List ℕ) → e ≡ First → true ≡ first_byte_ok e bs
-  unfolding first_byte_ok
-  begins-first bs is = rw is
-
-  pub begins_second : (bs : List ℕ) → e ≡ Second → eqb (get_or bs 0 0) 2 ≡ first_byte_ok e bs
-  unfolding first_byte_ok
-  begins_second bs is = rw is
-
-  pub count-first : (n : ℕ) → e ≡ First → 0 ≡ wear_count e n
-  unfolding wear_count
-  count-first n is = rw is
-
-  pub count_second : (n : ℕ) → e ≡ Second → n ≡ wear_count e n
-  unfolding wear_count
-  count_second n is = rw is
-
-  pub length-first : (k m : ℕ) → e ≡ First → 2 + 2 * m ≡ edition_length e (code k m [])
-  unfolding edition_length card_length
-  length-first k m is = rw is
-
-  pub length_second : (k m : ℕ) → e ≡ Second → 3 + 2 * m + (k + m) ≡ edition_length e (code k m [])
-  unfolding edition_length disks
-  length_second k m is = rw is
 
 -- no edition begins later
 pub start_small : (e : Edition) → start e ≤ 1
@@ -89,15 +54,15 @@ module _ (e : Edition) (bs : List ℕ) where
   unfolding each_wear
   each_second n ws is = rw is
 
-  pub wears-first : (n : ℕ) → e ≡ First → n ≡ disks (code_of (card_of e bs)) → padded 32 (replicate n 1) ≡ padded 32 (wears_of (card_of e bs))
-  wears-first n is many =
+  pub wears_first : (n : ℕ) → e ≡ First → n ≡ disks (code_of (card_of e bs)) → padded 32 (replicate n 1) ≡ padded 32 (wears_of (card_of e bs))
+  wears_first n is many =
       ap (padded 32) (ap (λ (x : ℕ). replicate x 1) many ∙ each_first (disks (code_of (card_of e bs))) (held_bytes (card_of e bs)) is ∙ sym (wears_are e bs))
 
   pub wears_second : e ≡ Second → padded 32 (held_bytes (card_of e bs)) ≡ padded 32 (wears_of (card_of e bs))
   wears_second is = ap (padded 32) (each_second (disks (code_of (card_of e bs))) (held_bytes (card_of e bs)) is ∙ sym (wears_are e bs))
 
 -- no edition holds more wears than there are disks
-pub held-few : (e : Edition) (n : ℕ) (held ws : List ℕ) → held ≡ ws → length ws ≡ wear_count e n → n ≤ 32 → length held ≤ 32
+pub held_few : (e : Edition) (n : ℕ) (held ws : List ℕ) → held ≡ ws → length ws ≡ wear_count e n → n ≤ 32 → length held ≤ 32
 unfolding wear_count
-held-few First n held ws e h l = rw e (omega arith)
-held-few Second n held ws e h l = rw e (omega arith)
+held_few First n held ws e h l = rw e (omega arith)
+held_few Second n held ws e h l = rw e (omega arith)

@@ -1,17 +1,16 @@
--- A report tells the answer that gave it: each answer is computed back from its report.
+-- A report tells the answer that gave it: a fault is computed back from its report, and counts stand in it.
 -- Assumes nothing.
-use mathlib.Core.Path.{◌≡◌, refl, sym, ap, ◌∙◌}
+use mathlib.Core.Path.{◌≡◌, refl, sym, ap, ◌∙◌, subst}
+use mathlib.Core.Bool.{Bool}
 use borrow.Author.Tests.{eq-eqb}
-use lib.Dec.{eqb}
+use lib.Dec.{T, eqb}
 use lib.ListN.{get_or}
-use Rattle.std.specs.Prelude.{if◌then◌else◌}
+use Rattle.std.specs.Prelude.{if◌then◌else◌, Ok, Err}
 use Rattle.flat.specs.Faults.{Report}
 use Rattle.card.specs.declared.CardFault.{CardFault}
-use Rattle.card.specs.declared.CardCheck.{CardCheck}
-use Rattle.card.specs.declared.CardCheck.TheVariants.{Good, Bad}
-use Rattle.card.specs.Reports.{fault_report, report}
+use Rattle.card.specs.Reports.{fault_report}
 use Rattle.card.specs.Theorems.{FaultInjective, CheckInjective}
-use Rattle.card.proofs.Laws.{fault_of, fault-back}
+use Rattle.card.proofs.Laws.{fault_of, fault-back, fault_refuses}
 
 -- an answer that carries a card's fault, where the number is that of a fault, else another
 module _ {A : Type 0} where
@@ -21,15 +20,15 @@ module _ {A : Type 0} where
   pub carried-back : (f : CardFault) (answer : CardFault → A) (other : A) → carried (fault_report f) answer other ≡ answer f
   carried-back f answer other = let n = (fault_report f).number in rw (fault-back f, eq-eqb n n refl)
 
-abbrev check_of : Report → CardCheck
-check_of r = carried r Bad (Good (get_or r.values 0 0) (get_or r.values 1 0))
-
-check-back : (r : CardCheck) → check_of (report r) ≡ r
-check-back (Good k m) = refl
-check-back (Bad f) = carried-back f Bad _
-
 pub fault_injective : FaultInjective
 fault_injective a b e = sym (fault-back a) ∙ ap fault_of e ∙ fault-back b
 
+-- an accepted report is no fault's
+no_fault : (f : CardFault) (r : Report) → fault_report f ≡ r → r.number ≡ 0 → ⊥
+no_fault f r e z = subst (λ (b : Bool). T b → ⊥) (sym (fault_refuses f)) (λ h. h) (let n : (fault_report f).number ≡ 0 = ap (λ (x : Report). x.number) e ∙ z in rw n tt)
+
 pub check_injective : CheckInjective
-check_injective a b e = sym (check-back a) ∙ ap check_of e ∙ check-back b
+check_injective (Ok A) (Ok B) e = (ap (λ (x : Report). get_or x.values 0 0) e, ap (λ (x : Report). get_or x.values 1 0) e)
+check_injective (Ok A) (Err f) e = no_fault f _ (sym e) refl
+check_injective (Err f) (Ok B) e = absurd (no_fault f _ e refl)
+check_injective (Err f) (Err g) e = ap Err (fault_injective g f (sym e))

@@ -1,5 +1,4 @@
--- What holds of the columns of an accepted card of k data disks and m parity disks, by their bytes: the functions behind each call require
--- this of the part that `card::columns` hands them, and no more of the card.
+-- What holds of the columns of an accepted card of k data disks and m parity disks, by their bytes: a `Code` is made of such bytes alone.
 -- Assumes nothing.
 use Rattle.std.specs.Prelude.{◌≡◌, List, ℕ, ◌*◌, ◌^◌, ◌≤◌, ◌<◌, length}
 use Rattle.flat.specs.Lists.{field}

@@ -1,3 +1,4 @@
+pub mod Codes
 pub mod Columns
 pub mod Editions
 pub mod Reports

@@ -1,11 +1,10 @@
 -- The documents' number and values for each case of the answers of this crate.
 -- Assumes nothing.
-use Rattle.std.specs.Prelude.{[], ◌∷◌}
+use Rattle.std.specs.Prelude.{[], ◌∷◌, Result, Ok, Err}
+use Rattle.flat.specs.Cards.{Code}
 use Rattle.flat.specs.Faults.{Report, accepted, refused}
 use Rattle.card.specs.declared.CardFault.{CardFault}
 use Rattle.card.specs.declared.CardFault.TheVariants.{Short, FirstByte, DataCount, ParityCount, Length, Column, ZeroWear}
-use Rattle.card.specs.declared.CardCheck.{CardCheck}
-use Rattle.card.specs.declared.CardCheck.TheVariants.{Good, Bad}
 
 -- a card's fault
 abbrev pub fault_report : CardFault → Report
@@ -17,7 +16,7 @@ fault_report Length = refused 4 []
 fault_report (Column j) = refused 5 (j ∷ [])
 fault_report ZeroWear = refused 23 []
 
--- the check, and the card reader
-abbrev pub report : CardCheck → Report
-report (Good k m) = accepted (k ∷ m ∷ [])
-report (Bad f) = fault_report f
+-- the check: the counts of the code, or the card's fault
+abbrev pub report : Result Code CardFault → Report
+report (Ok code) = accepted (code.k ∷ code.m ∷ [])
+report (Err f) = fault_report f

@@ -1,29 +1,34 @@
 // Cards: the bytes that describe a code, k, m, then m columns of two bytes, low byte first. In the second
 // edition a byte 0x02 comes before them, and a wear for each disk after them. The check that every call
-// makes of a card, its faults with their numbers, the part that the columns stand in, the card reader, one
-// column out of the bytes, the tests of counts and columns that the card writer shares, and the test of a
-// strip length, which goes with a card in every call that takes strips. Where the parts of an edition
-// stand, those who read a card learn from module `editions` alone.
+// makes of a card, its faults with their numbers, the card reader, the tests of counts and columns that the
+// card writer shares, and the test of a strip length, which goes with a card in every call that takes strips.
+// What the check answers for a good card is its code (module `codes`). Where the parts of an edition stand,
+// those who read a card learn from module `editions` alone.
 //
 // Every byte string is a legal argument of `check` and `read`, in either edition. What is answered for which
 // input is said in flat/specs/Faults.antt.
 #![tactic(auto)]
 
-ghost use Rattle.std.specs.Prelude.{◌≡◌, ◌+◌, ◌*◌, ◌<◌, ◌≤◌, length, get_or};
-ghost use Rattle.flat.specs.Lists.{padded, field};
-ghost use Rattle.flat.specs.Cards.{count_ok, column_ok, first_bad, columns_in, card_of};
+ghost use Rattle.std.specs.Prelude.{◌≡◌, ◌∷◌, [], get_or, IfOk, IfErr};
+ghost use Rattle.flat.specs.Cards.{count_ok, card_of, code_of, disks};
 ghost use Rattle.flat.specs.Strips.{length_ok};
-ghost use Rattle.flat.specs.Faults.{card_report, card_columns, card_wears};
+ghost use Rattle.flat.specs.Faults.{accepted, card_report, card_columns, card_wears};
+ghost use Rattle.card.specs.Codes.{Legal};
+ghost use Rattle.card.specs.Editions.{Counted, Worn};
 ghost use Rattle.card.specs.Reports.{fault_report, report};
 
+mod codes;
+mod columns;
 mod editions;
 
-pub use editions::{columns, has_zero, length, wear_count, wears};
+pub use codes::Code;
+pub use columns::first_bad;
+pub use editions::{length, wear_count, wears};
 pub use flat::Edition;
 
 // A fault of whoever wrote the card. Column names the first column that is 0 or has a bit at k or above.
 // FirstByte and ZeroWear are faults of the second edition alone.
-#[derive(Clone, Copy)]
+#[derive(Clone, Copy, Debug, PartialEq, Eq)]
 pub enum CardFault {
     Short,
     FirstByte,
@@ -34,188 +39,117 @@ pub enum CardFault {
     ZeroWear,
 }
 
-// A fault's number.
-pub fn number(fault: CardFault) -> usize
-    ensures { result ≡ (fault_report fault).number }
-{
-    match fault {
-        CardFault::Short => 1,
-        CardFault::FirstByte => 22,
-        CardFault::DataCount => 2,
-        CardFault::ParityCount => 3,
-        CardFault::Length => 4,
-        CardFault::Column(_) => 5,
-        CardFault::ZeroWear => 23,
+impl CardFault {
+    // The fault's number.
+    pub fn number(self) -> usize
+        ensures { result ≡ (fault_report self).number }
+    {
+        match self {
+            CardFault::Short => 1,
+            CardFault::FirstByte => 22,
+            CardFault::DataCount => 2,
+            CardFault::ParityCount => 3,
+            CardFault::Length => 4,
+            CardFault::Column(_) => 5,
+            CardFault::ZeroWear => 23,
+        }
+    }
+
+    // The value that the fault's report names, 0 where it names none.
+    pub fn value(self) -> usize
+        ensures { result ≡ get_or (fault_report self).values 0 0 }
+    {
+        match self {
+            CardFault::Column(j) => j,
+            _ => 0,
+        }
     }
 }
 
-// The value that a fault's report names, 0 where it names none.
-pub fn value(fault: CardFault) -> usize
-    ensures { result ≡ get_or (fault_report fault).values 0 0 }
-{
-    match fault {
-        CardFault::Short => 0,
-        CardFault::FirstByte => 0,
-        CardFault::DataCount => 0,
-        CardFault::ParityCount => 0,
-        CardFault::Length => 0,
-        CardFault::Column(j) => j,
-        CardFault::ZeroWear => 0,
-    }
-}
-
-// What the check finds: a card of k data disks and m parity disks, or its fault.
-#[derive(Clone, Copy)]
-pub enum CardCheck {
-    Good { k: usize, m: usize },
-    Bad(CardFault),
-}
-
-// The card reader's answer. The columns stand in the first m places and the wears of the disks in the
-// first k + m, the others are 0, and all are where the card is refused.
+// What the card reader reads from a good card. The columns stand in the first m places and the wears of the
+// disks in the first k + m; the others are 0.
 #[derive(Clone, Copy)]
 pub struct CardRead {
-    pub check: CardCheck,
+    pub k: usize,
+    pub m: usize,
     pub columns: [u16; 16],
     pub wears: [u8; 32],
 }
 
 // 1 to 16.
+#[tactic(auto, unfolding(flat::specs::Cards::count_ok))]
 pub fn count_ok(n: usize) -> bool
     ensures { result ≡ count_ok n }
 {
-    if n < 1 {
-        return false;
-    }
-    n <= 16
+    1 <= n && n <= 16
 }
 
 // A strip length: 1 to 65,536.
+#[tactic(auto, unfolding(flat::specs::Strips::length_ok))]
 pub fn length_ok(l: usize) -> bool
     ensures { result ≡ length_ok l }
 {
-    if l < 1 {
-        return false;
-    }
-    l <= 65536
+    1 <= l && l <= 65536
 }
 
-// 1 to 2 ^ k - 1.
-fn column_ok(k: usize, c: u16) -> bool
-    requires { k ≤ 16 }
-    ensures { result ≡ column_ok k c }
-{
-    if c < 1 {
-        return false;
-    }
-    (c as u32) < 1u32 << k
-}
-
-// The index of the first column that is none, or how many columns there are.
-pub fn first_bad(k: usize, columns: &[u16]) -> usize
-    requires { k ≤ 16 }
-    ensures { result ≡ first_bad k columns.now }
-{
-    let mut j = 0;
-    while j < columns.len() {
-        if !column_ok(k, columns[j]) {
-            return j;
-        }
-        j += 1;
-    }
-    j
-}
-
-// Column j out of the bytes of the columns.
-pub fn column(columns: &[u8], j: usize) -> u16
-    requires { 2 * j + 1 < length columns.now }
-    ensures { result ≡ field (2 * j) 2 columns.now }
-{
-    let at = 2 * j;
-    let low = columns[at] as u16;
-    let high = columns[at + 1] as u16;
-    low + 256 * high
-}
-
-// The m columns out of their bytes, then zeros.
-fn columns_of(m: usize, columns: &[u8]) -> [u16; 16]
-    requires { (m ≤ 16) × (2 * m ≤ length columns.now) }
-    ensures { result ≡ padded 16 (columns_in m columns.now) }
-{
-    let mut out = [0u16; 16];
-    for j in 0..m {
-        out[j] = column(columns, j);
-    }
-    out
-}
-
-// The index of the first column that is none, or m: `first_bad` of the m columns in their bytes. They are
-// read where they stand, with no copy made first, since every call makes this search.
-fn first_bad_in(k: usize, m: usize, columns: &[u8]) -> usize
-    requires { (k ≤ 16) × (2 * m ≤ length columns.now) }
-    ensures { result ≡ first_bad k (columns_in m columns.now) }
-{
-    for j in 0..m {
-        if !column_ok(k, column(columns, j)) {
-            return j;
-        }
-    }
-    m
-}
-
-// Whether the bytes are a card of the edition, and of how many disks.
-pub fn check(edition: Edition, card: &[u8]) -> CardCheck
-    ensures { report result ≡ card_report (card_of edition card.now) }
+// The counts that a card begins with, where they may be those of a code.
+fn counts(edition: Edition, card: &[u8]) -> Result<(usize, usize), CardFault>
+    ensures counted { IfOk result (λ counts. Counted (card_of edition card.now) counts.0 counts.1) }
+    ensures fault { IfErr result (λ fault. fault_report fault ≡ card_report (card_of edition card.now)) }
 {
     let at = editions::start(edition);
     if card.len() < at + 2 {
-        return CardCheck::Bad(CardFault::Short);
+        return Err(CardFault::Short);
     }
     if !editions::first_byte_ok(edition, card) {
-        return CardCheck::Bad(CardFault::FirstByte);
+        return Err(CardFault::FirstByte);
     }
     let k = card[at] as usize;
     let m = card[at + 1] as usize;
     if !count_ok(k) {
-        return CardCheck::Bad(CardFault::DataCount);
+        return Err(CardFault::DataCount);
     }
     if !count_ok(m) {
-        return CardCheck::Bad(CardFault::ParityCount);
+        return Err(CardFault::ParityCount);
     }
-    if card.len() != length(edition, k, m) {
-        return CardCheck::Bad(CardFault::Length);
-    }
-    let bad = first_bad_in(k, m, columns(edition, card));
-    if bad < m {
-        return CardCheck::Bad(CardFault::Column(bad));
-    }
-    if has_zero(editions::held(edition, card)) {
-        return CardCheck::Bad(CardFault::ZeroWear);
-    }
-    CardCheck::Good { k, m }
+    Ok((k, m))
 }
 
-// The card reader: k, m, the columns and the wears.
-pub fn read(edition: Edition, card: &[u8]) -> CardRead
-    ensures check_value { report result.check ≡ card_report (card_of edition card.now) }
-    ensures columns_value { result.columns ≡ card_columns (card_of edition card.now) }
-    ensures wears_value { result.wears ≡ card_wears (card_of edition card.now) }
+// The code of a card of the edition, or the card's fault. Every call makes this check, and that of a small stripe
+// takes little longer than it: so it stands in line.
+#[inline(always)]
+pub fn check(edition: Edition, card: &[u8]) -> Result<Code<'_>, CardFault>
+    ensures value { report result ≡ card_report (card_of edition card.now) }
+    ensures code { IfOk result (λ code. code ≡ code_of (card_of edition card.now)) }
+    ensures legal { IfOk result (λ code. Legal code) }
+    ensures worn { IfOk result (λ code. Worn (card_of edition card.now) (disks code)) }
 {
-    let check = check(edition, card);
-    match check {
-        CardCheck::Bad(_) => CardRead {
-            check,
-            columns: [0u16; 16],
-            wears: [0u8; 32],
-        },
-        CardCheck::Good { k, m } => {
-            let all = columns_of(m, columns(edition, card));
-            let worn = wears(edition, card, k + m);
-            CardRead {
-                check,
-                columns: all,
-                wears: worn,
-            }
-        }
+    let (k, m) = counts(edition, card)?;
+    if card.len() != length(edition, k, m) {
+        return Err(CardFault::Length);
     }
+    let columns = editions::columns(edition, card);
+    if let Some(bad) = columns::first_bad_in(k, m, columns) {
+        return Err(CardFault::Column(bad));
+    }
+    if editions::has_zero(editions::held(edition, card)) {
+        return Err(CardFault::ZeroWear);
+    }
+    Ok(Code::new(columns, k, m))
+}
+
+// The card reader: k, m, the columns and the wears of a good card, or its fault.
+pub fn read(edition: Edition, card: &[u8]) -> Result<CardRead, CardFault>
+    ensures counts { IfOk result (λ read. card_report (card_of edition card.now) ≡ accepted (read.k ∷ read.m ∷ [])) }
+    ensures columns { IfOk result (λ read. read.columns ≡ card_columns (card_of edition card.now)) }
+    ensures wears { IfOk result (λ read. read.wears ≡ card_wears (card_of edition card.now)) }
+    ensures fault { IfErr result (λ fault. card_report (card_of edition card.now) ≡ fault_report fault) }
+{
+    let code = check(edition, card)?;
+    Ok(CardRead {
+        k: code.k(),
+        m: code.m(),
+        columns: code.columns(),
+        wears: wears(edition, card, code.n()),
+    })
 }

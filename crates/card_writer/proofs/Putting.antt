@@ -2,11 +2,12 @@
 -- Assumes nothing.
 use mathlib.Core.Path.{◌≡◌, refl, sym, ap, ◌∙◌}
 use mathlib.Core.List.{List, [], ◌∷◌, ◌++◌, append_assoc, append-nil}
-use Prim.Native.Nat.{ℕ, ◌+◌, ◌*◌, ◌/◌, ◌%◌, ◌≤◌, ◌<◌}
+use Prim.Native.Nat.{ℕ, ◌+◌, ◌*◌, ◌≤◌, ◌<◌}
 use native.Mathlib.Omega.{arith}
 use native.Mathlib.Numerals.{add-one}
 use lib.ListN.{length, get_or, take, length-append}
 use lib.Seq.{take-suc, take-length, length-take-le}
+use Rattle.std.specs.Int.{to_le_bytes, w16}
 use Rattle.flat.specs.declared.Edition.{Edition}
 use Rattle.flat.specs.declared.Edition.TheVariants.{First, Second}
 use Rattle.flat.specs.Lists.{each, bytes, put}
@@ -15,17 +16,6 @@ use Rattle.flat.proofs.Lists.{put-none, put_next, put_whole, length-put}
 use Rattle.flat.proofs.Cards.{length-column-bytes}
 use Rattle.card.proofs.Places.{length_parts}
 use Rattle.card_writer.specs.Forms.{counts}
-
--- ---- the counts
-
-module _ (e : Edition) (k m : ℕ) where
-  pub counts-first : e ≡ First → counts e k m ≡ k ∷ m ∷ []
-  unfolding counts
-  counts-first is = rw is
-
-  pub counts_second : e ≡ Second → counts e k m ≡ 2 ∷ k ∷ m ∷ []
-  unfolding counts
-  counts_second is = rw is
 
 -- ---- the columns: after j turns the first j of them stand there
 
@@ -38,20 +28,21 @@ pub columns-none : (s : List ℕ) (at : ℕ) (cs : List ℕ) → s ≡ put s at 
 unfolding each
 columns-none s at cs = sym (put-none s at)
 
-pub columns-more : (s out new : List ℕ) (at j b : ℕ) (cs : List ℕ) → at + 2 * length cs ≤ length s → j < length cs → get_or cs j 0 < 65536
-    → out ≡ put s at (each (bytes 2) (take j cs)) → b ≡ at + 2 * j → new ≡ put out b ((get_or cs j 0 % 256) ∷ (get_or cs j 0 / 256) ∷ [])
-    → new ≡ put s at (each (bytes 2) (take (j + 1) cs))
+-- a column's two bytes
+pub two_bytes : (c : ℕ) → to_le_bytes w16 c ≡ bytes 2 c
+unfolding bytes
+two_bytes c = refl
+
+pub columns-more : (s out new : List ℕ) (at j b : ℕ) (cs : List ℕ) → at + 2 * length cs ≤ length s → j < length cs
+    → out ≡ put s at (each (bytes 2) (take j cs)) → b ≡ at + 2 * j → new ≡ put out b (bytes 2 (get_or cs j 0)) → new ≡ put s at (each (bytes 2) (take (j + 1) cs))
 unfolding each bytes
-columns-more s out new at j b cs fits l small so_far place turn =
+columns-more s out new at j b cs fits l so_far place turn =
     let c = get_or cs j 0 in
-    let high : c / 256 % 256 ≡ c / 256 = omega arith in
     let front = each (bytes 2) (take j cs) in
     let many : length front ≡ 2 * j = length-column-bytes (take j cs) ∙ ap (λ (n : ℕ). 2 * n) (length-take-le j cs (omega arith)) in
-    turn ∙ ap (λ (o : List ℕ). put o b ((c % 256) ∷ (c / 256) ∷ [])) so_far
-    ∙ put_next s at b front ((c % 256) ∷ (c / 256) ∷ []) (omega arith) (omega arith)
+    turn ∙ ap (λ (o : List ℕ). put o b (bytes 2 c)) so_far ∙ put_next s at b front (bytes 2 c) (omega arith) (omega arith)
     ∙ ap (put s at)
-    (ap (λ (h : ℕ). front ++ ((c % 256) ∷ h ∷ [])) (sym high) ∙ sym (each_append (bytes 2) (take j cs) (c ∷ []))
-    ∙ ap (each (bytes 2)) (sym (ap (λ (n : ℕ). take n cs) (add-one j) ∙ take-suc cs j 0 l)))
+    (sym (each_append (bytes 2) (take j cs) (c ∷ [])) ∙ ap (each (bytes 2)) (sym (ap (λ (n : ℕ). take n cs) (add-one j) ∙ take-suc cs j 0 l)))
 
 pub columns-long : (s new : List ℕ) (at j : ℕ) (cs : List ℕ) → at + 2 * length cs ≤ length s → j ≤ length cs
     → new ≡ put s at (each (bytes 2) (take j cs)) → length new ≡ length s

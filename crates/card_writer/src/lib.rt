@@ -4,61 +4,67 @@
 // in flat/specs/Faults.antt.
 #![tactic(auto)]
 
-ghost use Rattle.std.specs.Prelude.{◌≡◌, [], ◌+◌, ◌*◌, ◌≤◌, length};
+ghost use Rattle.std.specs.Prelude.{◌≡◌, [], ℕ, ◌+◌, ◌*◌, ◌≤◌, length, IfErr, OnOk};
 ghost use Rattle.flat.specs.Lists.{each, bytes, put};
 ghost use Rattle.flat.specs.Cards.{code, edition_bytes, edition_length, wear_count};
 ghost use Rattle.flat.specs.Faults.{card_write_report, card_write_buffer};
-ghost use Rattle.card_writer.specs.Forms.{counts};
+ghost use Rattle.card.specs.Reports.{fault_report};
+ghost use Rattle.card_writer.specs.declared.CardWriteError.TheVariants.{Card};
+ghost use Rattle.card_writer.specs.Forms.{counts, Sound};
 ghost use Rattle.card_writer.specs.Reports.{report};
 
 use card::{CardFault, Edition};
 use copies::copy;
 
-// The card writer's answer: written, a fault of the card that was to be, or a buffer of another length.
-#[derive(Clone, Copy)]
-pub enum CardWritten {
-    Done,
-    Refused(CardFault),
+// Why no card was written: a fault of the card that was to be, or a buffer of another length.
+#[derive(Clone, Copy, Debug, PartialEq, Eq)]
+pub enum CardWriteError {
+    Card(CardFault),
     Buffer,
 }
 
-// What the card writer answers for a buffer of n bytes.
-fn write_check(
+impl From<CardFault> for CardWriteError {
+    ghost from_gives = { λ fault error. error ≡ Card fault };
+
+    fn from(fault: CardFault) -> CardWriteError {
+        CardWriteError::Card(fault)
+    }
+}
+
+// The first fault of the card that is to be, whatever the buffer.
+fn check(
     edition: Edition,
     k: usize,
     m: usize,
     columns: &[u16],
     wears: &[u8],
-    n: usize,
-) -> CardWritten
-    ensures { report result ≡ card_write_report edition (code k m columns.now) wears.now n }
+) -> Result<(), CardFault>
+    ensures fault { IfErr result (λ fault. (n : ℕ) → fault_report fault ≡ card_write_report edition (code k m columns.now) wears.now n) }
+    ensures sound { OnOk result (Sound edition (code k m columns.now) wears.now) }
 {
     if !card::count_ok(k) {
-        return CardWritten::Refused(CardFault::DataCount);
+        return Err(CardFault::DataCount);
     }
     if !card::count_ok(m) {
-        return CardWritten::Refused(CardFault::ParityCount);
+        return Err(CardFault::ParityCount);
     }
     if columns.len() != m {
-        return CardWritten::Refused(CardFault::Length);
+        return Err(CardFault::Length);
     }
     if wears.len() != card::wear_count(edition, k + m) {
-        return CardWritten::Refused(CardFault::Length);
+        return Err(CardFault::Length);
     }
-    let bad = card::first_bad(k, columns);
-    if bad < m {
-        return CardWritten::Refused(CardFault::Column(bad));
+    if let Some(bad) = card::first_bad(k, columns) {
+        return Err(CardFault::Column(bad));
     }
-    if card::has_zero(wears) {
-        return CardWritten::Refused(CardFault::ZeroWear);
+    if wears.contains(&0) {
+        return Err(CardFault::ZeroWear);
     }
-    if n != card::length(edition, k, m) {
-        return CardWritten::Buffer;
-    }
-    CardWritten::Done
+    Ok(())
 }
 
 // Puts what stands before the columns at the buffer's front, and answers where the columns go.
+#[tactic(auto, unfolding(crate::specs::Forms::counts))]
 fn put_counts(edition: Edition, k: usize, m: usize, out: &mut [u8]) -> usize
     requires { (k ≤ 16) × (m ≤ 16) × (3 ≤ length out.old) }
     ensures value { (result ≡ length (counts edition k m)) × (result ≤ 3) }
@@ -81,9 +87,8 @@ fn put_columns(columns: &[u16], at: usize, out: &mut [u8])
     requires { (at ≤ 3) × (length columns.now ≤ 16) × (at + 2 * length columns.now ≤ length out.old) }
     ensures { out.new ≡ put out.old at (each (bytes 2) columns.now) }
 {
-    for j in 0..columns.len() {
-        let c = columns[j];
-        copy(out, at + 2 * j, &[(c % 256) as u8, (c / 256) as u8]);
+    for (j, column) in columns.iter().enumerate() {
+        copy(out, at + 2 * j, &column.to_le_bytes());
     }
 }
 
@@ -106,17 +111,14 @@ pub fn write(
     columns: &[u16],
     wears: &[u8],
     out: &mut [u8],
-) -> CardWritten
+) -> Result<(), CardWriteError>
     ensures result_value { report result ≡ card_write_report edition (code k m columns.now) wears.now (length out.old) }
     ensures out_after { out.new ≡ card_write_buffer edition (code k m columns.now) wears.now out.old }
 {
-    let answer = write_check(edition, k, m, columns, wears, out.len());
-    match answer {
-        CardWritten::Refused(_) => answer,
-        CardWritten::Buffer => answer,
-        CardWritten::Done => {
-            put_card(edition, k, m, columns, wears, out);
-            answer
-        }
+    check(edition, k, m, columns, wears)?;
+    if out.len() != card::length(edition, k, m) {
+        return Err(CardWriteError::Buffer);
     }
+    put_card(edition, k, m, columns, wears, out);
+    Ok(())
 }

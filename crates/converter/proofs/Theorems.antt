@@ -2,22 +2,22 @@
 -- Assumes nothing.
 use mathlib.Core.Path.{◌≡◌, refl, sym, ap, ◌∙◌}
 use lib.Dec.{eqb}
-use Rattle.std.specs.Prelude.{if◌then◌else◌}
+use Rattle.std.specs.Prelude.{if◌then◌else◌, Result, Ok, Err}
 use Rattle.flat.specs.Faults.{Report}
 use Rattle.card.proofs.Theorems.{carried, carried-back}
-use Rattle.converter.specs.declared.Converted.{Converted}
-use Rattle.converter.specs.declared.Converted.TheVariants.{Done, Card, Buffer, Lossy}
+use Rattle.converter.specs.declared.ConvertError.{ConvertError}
+use Rattle.converter.specs.declared.ConvertError.TheVariants.{Card, Buffer, Lossy}
 use Rattle.converter.specs.Reports.{report}
 use Rattle.converter.specs.Theorems.{ConvertedInjective}
 
-abbrev converted_of : Report → Converted
-converted_of r = carried r Card (if eqb r.number 0 then Done else if eqb r.number 7 then Buffer else Lossy)
+abbrev converted_of : Report → Result (Unit {0}) ConvertError
+converted_of r = carried r (λ f. Err (Card f)) (if eqb r.number 0 then Ok tt else if eqb r.number 7 then Err Buffer else Err Lossy)
 
-converted-back : (r : Converted) → converted_of (report r) ≡ r
-converted-back Done = refl
-converted-back (Card f) = carried-back f Card _
-converted-back Buffer = refl
-converted-back Lossy = refl
+converted_back : (r : Result (Unit {0}) ConvertError) → converted_of (report r) ≡ r
+converted_back (Ok _) = refl
+converted_back (Err (Card f)) = carried-back f (λ g. Err (Card g)) _
+converted_back (Err Buffer) = refl
+converted_back (Err Lossy) = refl
 
 pub converted_injective : ConvertedInjective
-converted_injective a b e = sym (converted-back a) ∙ ap converted_of e ∙ converted-back b
+converted_injective a b e = sym (converted_back a) ∙ ap converted_of e ∙ converted_back b

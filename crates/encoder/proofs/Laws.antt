@@ -1,75 +1,69 @@
 -- The table of the columns' bits, row after row, and the stripe that it gives.
 -- Assumes nothing.
-use mathlib.Core.Path.{◌≡◌, sym, ap, ◌∙◌}
-use mathlib.Core.Logic.{◌⊎◌, inl, inr}
+use mathlib.Core.Path.{◌≡◌, refl, sym, ap, ◌∙◌}
+use mathlib.Core.Logic.{◌⊎◌, inl, inr, ◌≢◌}
 use mathlib.Core.List.{List}
-use Prim.Native.Nat.{ℕ, ◌+◌, ◌-◌, ◌*◌, ◌≤◌, ◌<◌}
+use Prim.Native.Nat.{ℕ, ◌+◌, ◌*◌, ◌≤◌, ◌<◌}
 use native.Mathlib.Omega.{arith}
 use lib.ListN.{length, get_or}
 use Rattle.gf2.specs.Sets.{bit}
-use Rattle.gf2.proofs.Bits.{bit_lt}
-use Rattle.gf2.proofs.Tests.{below_suc, below_or}
-use Rattle.flat.specs.Lists.{tabulate, put, field}
-use Rattle.flat.specs.Cards.{column, disks, code_in}
+use Rattle.gf2.proofs.Tests.{below_suc}
+use Rattle.flat.specs.Cards.{Code, disks, column}
 use Rattle.flat.specs.Strips.{encoded}
-use Rattle.flat.proofs.Lists.{length-tabulate, get_d_tabulate, length-put, put-before, put-new, put-after}
-use Rattle.flat.proofs.Cards.{column-at}
-use Rattle.strip_products.specs.Products.{Bits, multiplied}
+use Rattle.strip_products.specs.Products.{multiplied}
 use Rattle.strip_products.proofs.Theorems.{multiplied-encodes}
 
--- ---- the rows of the data disks below i are stored
+module _ (C : Code) where
+  -- ---- the bits of one data disk
 
--- bit i of column j
-abbrev pub column_bit : List ℕ → ℕ → ℕ → ℕ
-column_bit columns i j = bit (field (2 * j) 2 columns) i
+  module _ (i : ℕ) (bits₀ : List ℕ) where
+    -- its first j places are stored, the other places of the table are those at entry
+    pub record Row (j : ℕ) (bits : List ℕ) : Type 0 where
+      pub row : (x : ℕ) → x < j → get_or bits (i * 16 + x) 0 ≡ bit (column C x) i
+      pub kept : (p : ℕ) → (p < i * 16) ⊎ (i * 16 + j ≤ p) → get_or bits p 0 ≡ get_or bits₀ p 0
 
-module _ (columns : List ℕ) (m : ℕ) where
+    pub row_none : Row 0 bits₀
+    row_none = record { row = λ x h. absurd (omega arith); kept = λ p h. refl }
+
+    pub row_more : (j b : ℕ) (bits next : List ℕ) → Row j bits → get_or next (i * 16 + j) 0 ≡ b
+        → ((p : ℕ) → p ≢ i * 16 + j → get_or next p 0 ≡ get_or bits p 0) → b ≡ bit (column C j) i → Row (j + 1) next
+    row_more j b bits next r placed kept e =
+        record {
+          row = λ x h. go x (below_suc x j (omega arith));
+          kept = λ p h. kept p (apart p h) ∙ r.kept p (wider p h);
+        }
+      where
+        go : (x : ℕ) → (x < j) ⊎ (x ≡ j) → get_or next (i * 16 + x) 0 ≡ bit (column C x) i
+        go x (inl h) = kept (i * 16 + x) (λ y. let z : i * 16 + x ≡ i * 16 + j = y in omega arith) ∙ r.row x h
+        go x (inr q) = rw q (placed ∙ e)
+
+        apart : (p : ℕ) → (p < i * 16) ⊎ (i * 16 + (j + 1) ≤ p) → p ≢ i * 16 + j
+        apart p (inl h) y = let z : p ≡ i * 16 + j = y in omega arith
+        apart p (inr h) y = let z : p ≡ i * 16 + j = y in omega arith
+
+        wider : (p : ℕ) → (p < i * 16) ⊎ (i * 16 + (j + 1) ≤ p) → (p < i * 16) ⊎ (i * 16 + j ≤ p)
+        wider p (inl h) = inl h
+        wider p (inr h) = inr (omega arith)
+
+  -- ---- those of the data disks below i
+
   pub record Stored (i : ℕ) (bits : List ℕ) : Type 0 where
-    pub long : length bits ≡ 256
-    pub are_bits : Bits bits
-    pub rows : (d j : ℕ) → d < i → j < m → get_or bits (d * 16 + j) 0 ≡ column_bit columns d j
+    pub rows : (d j : ℕ) → d < i → j < C.m → get_or bits (d * 16 + j) 0 ≡ bit (column C j) d
 
-  pub stored-none : (bits : List ℕ) → length bits ≡ 256 → Bits bits → Stored 0 bits
-  stored-none bits e b = record { long = e; are_bits = b; rows = λ d j h n. absurd (omega arith) }
+  pub stored_none : (bits : List ℕ) → Stored 0 bits
+  stored_none bits = record { rows = λ d j h n. absurd (omega arith) }
 
-  pub stored_more : (i : ℕ) (bits next : List ℕ) → Stored i bits → i < 16 → m ≤ 16 → next ≡ put bits (i * 16) (tabulate m (column_bit columns i)) → Stored (i + 1) next
-  stored_more i bits next r h few e =
-      rw e
-      (record {
-        long = length-put bits (i * 16) row (omega (arith, room, size)) ∙ r.long;
-        are_bits = λ p. small p (below_or p (i * 16)) (below_or p (i * 16 + m));
-        rows = λ d j x n. go d j n (below_suc d i (omega arith));
-      })
+  pub stored_more : (i : ℕ) (bits next : List ℕ) → Stored i bits → C.m ≤ 16 → ((j : ℕ) → j < C.m → get_or next (i * 16 + j) 0 ≡ bit (column C j) i)
+      → ((p : ℕ) → (p < i * 16) ⊎ (i * 16 + C.m ≤ p) → get_or next p 0 ≡ get_or bits p 0) → Stored (i + 1) next
+  stored_more i bits next r few row kept = record { rows = λ d j x n. go d j n (below_suc d i (omega arith)) }
     where
-      row : List ℕ
-      row = tabulate m (column_bit columns i)
+      go : (d j : ℕ) → j < C.m → (d < i) ⊎ (d ≡ i) → get_or next (d * 16 + j) 0 ≡ bit (column C j) d
+      go d j n (inl x) = kept (d * 16 + j) (inl (omega arith)) ∙ r.rows d j x n
+      go d j n (inr q) = rw q (row j n)
 
-      size : length row ≡ m
-      size = length-tabulate m (column_bit columns i)
+  -- ---- what the whole table gives
 
-      room : i * 16 + m ≤ length bits
-      room = omega (arith, r.long)
-
-      new : (j : ℕ) → j < m → get_or (put bits (i * 16) row) (i * 16 + j) 0 ≡ column_bit columns i j
-      new j n = put-new bits (i * 16) row m room size j n ∙ get_d_tabulate m (column_bit columns i) j n
-
-      small : (p : ℕ) → (p < i * 16) ⊎ (i * 16 ≤ p) → (p < i * 16 + m) ⊎ (i * 16 + m ≤ p) → get_or (put bits (i * 16) row) p 0 ≤ 1
-      small p (inl a) b = rw (put-before bits (i * 16) row m room size p a) (r.are_bits p)
-      small p (inr a) (inr b) = rw (put-after bits (i * 16) row m room size p b) (r.are_bits p)
-      small p (inr a) (inl b) =
-          let x : p ≡ i * 16 + (p - i * 16) = omega arith in
-          rw (ap (λ (q : ℕ). get_or (put bits (i * 16) row) q 0) x ∙ new (p - i * 16) (omega arith)) (let y = bit_lt (field (2 * (p - i * 16)) 2 columns) i in omega arith)
-
-      go : (d j : ℕ) → j < m → (d < i) ⊎ (d ≡ i) → get_or (put bits (i * 16) row) (d * 16 + j) 0 ≡ column_bit columns d j
-      go d j n (inl x) = put-before bits (i * 16) row m room size (d * 16 + j) (omega arith) ∙ r.rows d j x n
-      go d j n (inr q) = rw q (new j n)
-
--- ---- what the columns' bits give
-
-pub bits_encode : (k m l : ℕ) (columns bits stripe : List ℕ) → (k + m) * l ≡ length stripe
-    → ((i j : ℕ) → i < k → j < m → get_or bits (i * 16 + j) 0 ≡ bit (field (2 * j) 2 columns) i)
-    → multiplied k l bits stripe ≡ encoded (code_in k m columns) l stripe
-unfolding column disks
-bits_encode k m l columns bits stripe e h =
-    multiplied-encodes (code_in k m columns) l bits stripe (sym e)
-    (λ i j a b. h i j a b ∙ ap (λ (c : ℕ). bit c i) (sym (column-at m columns j b)))
+  pub table_encodes : (k l : ℕ) (bits stripe new : List ℕ) → k ≡ C.k → disks C * l ≡ length stripe
+      → ((i j : ℕ) → i < C.k → j < C.m → get_or bits (i * 16 + j) 0 ≡ bit (column C j) i) → new ≡ multiplied k l bits stripe → new ≡ encoded C l stripe
+  table_encodes k l bits stripe new count fits stored filled =
+      filled ∙ ap (λ (n : ℕ). multiplied n l bits stripe) count ∙ multiplied-encodes C l bits stripe (sym fits) stored

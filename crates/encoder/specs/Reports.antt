@@ -1,13 +1,16 @@
--- Document 01's number and values for each case of the answer of this crate.
+-- Document 01's number and values for each case of the encoder's answer.
 -- Assumes nothing.
-use Rattle.std.specs.Prelude.{[]}
+use Rattle.std.specs.Prelude.{[], Result, Ok, Err}
 use Rattle.flat.specs.Faults.{Report, accepted, refused}
 use Rattle.card.specs.Reports.{fault_report}
-use Rattle.encoder.specs.declared.Encoded.{Encoded}
-use Rattle.encoder.specs.declared.Encoded.TheVariants.{Done, Card, StripLength, StripeLength}
+use Rattle.encoder.specs.declared.EncodeError.{EncodeError}
+use Rattle.encoder.specs.declared.EncodeError.TheVariants.{Card, StripLength, StripeLength}
 
-abbrev pub report : Encoded → Report
-report Done = accepted []
-report (Card f) = fault_report f
-report StripLength = refused 6 []
-report StripeLength = refused 7 []
+abbrev pub error_report : EncodeError → Report
+error_report (Card f) = fault_report f
+error_report StripLength = refused 6 []
+error_report StripeLength = refused 7 []
+
+abbrev pub report : Result (Unit {0}) EncodeError → Report
+report (Ok _) = accepted []
+report (Err e) = error_report e

@@ -9,76 +9,88 @@
 // flat/specs/Faults.antt.
 #![tactic(auto)]
 
-ghost use Rattle.std.specs.Prelude.{◌≡◌, ℕ, ◌+◌, ◌*◌, ◌<◌, ◌≤◌, length, get_or};
+ghost use Rattle.std.specs.Prelude.{◌≡◌, ◌⊎◌, ℕ, ◌+◌, ◌*◌, ◌<◌, ◌≤◌, length, get_or, OnOk};
 ghost use Rattle.gf2.specs.Sets.{bit};
-ghost use Rattle.flat.specs.Lists.{tabulate, put, field};
-ghost use Rattle.flat.specs.Cards.{code_in, card_of};
+ghost use Rattle.flat.specs.Cards.{card_of, column, disks};
 ghost use Rattle.flat.specs.Strips.{encoded};
-ghost use Rattle.flat.specs.Faults.{encode_report, encode_stripe};
-ghost use Rattle.card.specs.Columns.{Columns};
-ghost use Rattle.strip_products.specs.Products.{Bits};
+ghost use Rattle.flat.specs.Faults.{encode_tests, encode_report, encode_stripe};
+ghost use Rattle.encoder.specs.declared.EncodeError.TheVariants.{Card};
 ghost use Rattle.encoder.specs.Reports.{report};
 
-use card::{CardCheck, CardFault, Edition};
+use card::{CardFault, Code, Edition};
+use strip_products::BitTable;
 
-// The encoder's answer: encoded, the card's fault, a strip length that is none, or a stripe of another
-// length.
-#[derive(Clone, Copy)]
-pub enum Encoded {
-    Done,
+// Why nothing was encoded: the card's fault, a strip length that is none, or a stripe of another length.
+#[derive(Clone, Copy, Debug, PartialEq, Eq)]
+pub enum EncodeError {
     Card(CardFault),
     StripLength,
     StripeLength,
 }
 
+impl From<CardFault> for EncodeError {
+    ghost from_gives = { λ fault error. error ≡ Card fault };
+
+    fn from(fault: CardFault) -> EncodeError {
+        EncodeError::Card(fault)
+    }
+}
+
 // Row i of the table: bit i of each column.
-fn row(bits: &mut [u8; 256], i: usize, columns: &[u8], m: usize)
-    requires { (length bits.old ≡ 256) × (i < 16) × (m ≤ 16) × (length columns.now ≡ 2 * m) }
-    ensures { bits.new ≡ put bits.old (i * 16) (tabulate m (λ j. bit (field (2 * j) 2 columns.now) i)) }
+#[tactic(auto, using(crate::proofs::Laws::row_none, crate::proofs::Laws::row_more), unfolding(gf2::specs::Sets::bit))]
+fn row(bits: &mut BitTable, i: usize, code: &Code)
+    requires { i < 16 }
+    ensures row { (j : ℕ) → j < code.now.m → get_or bits.new (i * 16 + j) 0 ≡ bit (column code.now j) i }
+    ensures kept { (p : ℕ) → (p < i * 16) ⊎ (i * 16 + code.now.m ≤ p) → get_or bits.new p 0 ≡ get_or bits.old p 0 }
 {
-    for j in 0..m {
-        bits[i * 16 + j] = ((card::column(columns, j) >> i) % 2) as u8;
+    for j in 0..code.m() {
+        bits.set(i, j, ((code.column(j) >> i) % 2) as u8);
     }
 }
 
-// The columns' bits, out of their bytes, into a table of bits: 16 places for each data disk, place j for
-// parity disk k + j. The other places mean nothing.
-fn bits_of(bits: &mut [u8; 256], columns: &[u8], k: usize, m: usize)
-    requires { (length bits.old ≡ 256) × Bits bits.old × Columns k m columns.now }
-    ensures bits_len { (length bits.new ≡ 256) × Bits bits.new }
-    ensures by_index { (i j : ℕ) → i < k → j < m → get_or bits.new (i * 16 + j) 0 ≡ bit (field (2 * j) 2 columns.now) i }
+// The columns' bits into the table. The other places mean nothing.
+#[tactic(auto, using(crate::proofs::Laws::stored_none, crate::proofs::Laws::stored_more))]
+fn fill_table(bits: &mut BitTable, code: &Code)
+    ensures { (i j : ℕ) → i < code.now.k → j < code.now.m → get_or bits.new (i * 16 + j) 0 ≡ bit (column code.now j) i }
 {
-    for i in 0..k {
-        row(bits, i, columns, m);
+    for i in 0..code.k() {
+        row(bits, i, code);
     }
 }
 
-// The encoder, on the columns of an accepted card and a stripe of its length.
-fn encode_columns(columns: &[u8], k: usize, m: usize, l: usize, stripe: &mut [u8])
-    requires { Columns k m columns.now × (1 ≤ l) × (l ≤ 65536) × ((k + m) * l ≡ length stripe.old) }
-    ensures { stripe.new ≡ encoded (code_in k m columns.now) l stripe.old }
+// Whether strips of l bytes and a stripe of size bytes may be encoded, in the document's order of the tests.
+#[tactic(auto, unfolding(flat::specs::Faults::encode_tests))]
+fn tests(code: &Code, l: usize, size: usize) -> Result<(), EncodeError>
+    ensures value { report result ≡ encode_tests code.now l size }
+    ensures fits { OnOk result ((1 ≤ l) × (l ≤ 65536) × (disks code.now * l ≡ size)) }
 {
-    let mut bits = [0u8; 256];
-    bits_of(&mut bits, columns, k, m);
-    strip_steady::fill(stripe, l, k, m, &bits);
+    if !card::length_ok(l) {
+        return Err(EncodeError::StripLength);
+    }
+    if size != code.n() * l {
+        return Err(EncodeError::StripeLength);
+    }
+    Ok(())
+}
+
+// The parity strips of a stripe of the code's length.
+fn encode_code(code: &Code, l: usize, stripe: &mut [u8])
+    requires { (1 ≤ l) × (l ≤ 65536) × (disks code.now * l ≡ length stripe.old) }
+    ensures { stripe.new ≡ encoded code.now l stripe.old }
+{
+    let mut bits = BitTable::new();
+    fill_table(&mut bits, code);
+    strip_steady::fill(stripe, l, code.k(), code.m(), &bits);
 }
 
 // The encoder.
-pub fn encode(edition: Edition, card: &[u8], l: usize, stripe: &mut [u8]) -> Encoded
+#[tactic(auto, using(card::proofs::Callers::good_with, card::proofs::Callers::bad_card), unfolding(flat::specs::Faults::encode_report))]
+pub fn encode(edition: Edition, card: &[u8], l: usize, stripe: &mut [u8]) -> Result<(), EncodeError>
     ensures result_value { report result ≡ encode_report (card_of edition card.now) l (length stripe.old) }
     ensures stripe_after { stripe.new ≡ encode_stripe (card_of edition card.now) l stripe.old }
 {
-    match card::check(edition, card) {
-        CardCheck::Bad(fault) => Encoded::Card(fault),
-        CardCheck::Good { k, m } => {
-            if !card::length_ok(l) {
-                return Encoded::StripLength;
-            }
-            if stripe.len() != (k + m) * l {
-                return Encoded::StripeLength;
-            }
-            encode_columns(card::columns(edition, card), k, m, l, stripe);
-            Encoded::Done
-        }
-    }
+    let code = card::check(edition, card)?;
+    tests(&code, l, stripe.len())?;
+    encode_code(&code, l, stripe);
+    Ok(())
 }

@@ -1,4 +1,5 @@
 pub mod Enumerated
 pub mod Laws
+pub mod Answered
 pub mod Theorems
 pub mod Impostors

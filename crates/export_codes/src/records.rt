@@ -8,20 +8,20 @@ ghost use Rattle.record.specs.Reports.{report as there_report};
 ghost use Rattle.export_bounds.specs.Coded.{coded, Fits};
 
 use crate::{fault_code, packed};
-use record::{BodyCheck, RecordFault, RecordWritten};
+use record::{BodyError, BodyPlace, RecordFault, RecordWriteError};
 
 // The writer's answer.
-pub fn record_written_code(written: RecordWritten) -> u64
+pub fn record_written_code(written: Result<usize, RecordWriteError>) -> u64
     requires { Fits (record_written_report written) }
     ensures { result ≡ coded (record_written_report written) }
 {
     match written {
-        RecordWritten::Length(len) => packed(0, len),
-        RecordWritten::Card(fault) => fault_code(fault),
-        RecordWritten::StripLength => 6,
-        RecordWritten::OutsideSet => 8,
-        RecordWritten::StripeLength => 7,
-        RecordWritten::Output => 16,
+        Ok(length) => packed(0, length),
+        Err(RecordWriteError::Card(fault)) => fault_code(fault),
+        Err(RecordWriteError::StripLength) => 6,
+        Err(RecordWriteError::OutsideSet) => 8,
+        Err(RecordWriteError::StripeLength) => 7,
+        Err(RecordWriteError::Output) => 16,
     }
 }
 
@@ -39,15 +39,15 @@ pub fn record_fault_code(fault: RecordFault) -> u64
     }
 }
 
-// The answer of the call beside the body call.
-pub fn there_code(there: BodyCheck) -> u64
+// The answer to where a body stands.
+pub fn there_code(there: Result<BodyPlace, BodyError>) -> u64
     requires { Fits (there_report there) }
     ensures { result ≡ coded (there_report there) }
 {
     match there {
-        BodyCheck::There => 0,
-        BodyCheck::Record(fault) => record_fault_code(fault),
-        BodyCheck::NoDisk => 9,
-        BodyCheck::Lost => 16,
+        Ok(_) => 0,
+        Err(BodyError::Record(fault)) => record_fault_code(fault),
+        Err(BodyError::NoDisk) => 9,
+        Err(BodyError::Lost) => 16,
     }
 }

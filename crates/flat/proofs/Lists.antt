@@ -76,7 +76,7 @@ unfolding padded
 take-padded n m xs e = take_at xs (replicate (n - length xs) 0) m e
 
 -- an array of zeros that is filled from the front with a table
-tabulate-more : (n : ℕ) (f : ℕ → ℕ) → tabulate (suc n) f ≡ tabulate n f ++ (f n ∷ [])
+pub tabulate-more : (n : ℕ) (f : ℕ → ℕ) → tabulate (suc n) f ≡ tabulate n f ++ (f n ∷ [])
 unfolding tabulate
 tabulate-more zero f = refl
 tabulate-more (suc n) f = ap (λ (l : List ℕ). f 0 ∷ l) (tabulate-more n (λ i. f (suc i)))

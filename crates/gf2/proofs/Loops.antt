@@ -7,37 +7,14 @@ use native.Mathlib.Omega.{arith}
 use native.Mathlib.Numerals.{add-one}
 use lib.Bits.{bit_or, bit_xor}
 use lib.Dec.{T}
-use lib.ListN.{length, get_or, take, drop, set, drop_of_length-le}
+use lib.ListN.{length, get_or, take, drop, drop_of_length-le, set}
 use lib.Seq.{drop-cons, get_or-take, length-take-le, take-suc-set, append_snoc}
 use Rattle.std.specs.Prelude.{if◌then◌else◌}
 use Rattle.gf2.specs.Sets.{has, ◌∖◌, ◌⊆◌, ◌∪◌, union, over}
 use Rattle.gf2.specs.Span.{select}
 use Rattle.gf2.specs.Within.{lowest, clear, within}
 use Rattle.gf2.proofs.Elimination.{within-nil, within-kept, within_dropped}
-use Rattle.gf2.proofs.Unions.{zero-∪, ∪-zero, ∪_assoc}
-
--- ---- cleared_all: f mapped over the first n places
-
-abbrev pub mapped : (ℕ → ℕ) → ℕ → List ℕ → List ℕ
-mapped f zero l = l
-mapped f (suc n) [] = []
-mapped f (suc n) (x ∷ l) = f x ∷ mapped f n l
-
-mapped-set : (f : ℕ → ℕ) (n : ℕ) (l : List ℕ) → n < length l → set (mapped f n l) n (f (get_or l n 0)) ≡ mapped f (suc n) l
-mapped-set f n [] h = absurd (omega arith)
-mapped-set f zero (x ∷ l) h = refl
-mapped-set f (suc n) (x ∷ l) h = ap (λ (r : List ℕ). f x ∷ r) (mapped-set f n l (omega arith))
-
-mapped-all : (f : ℕ → ℕ) (l : List ℕ) → mapped f (length l) l ≡ map f l
-mapped-all f [] = refl
-mapped-all f (x ∷ l) = ap (λ (r : List ℕ). f x ∷ r) (mapped-all f l)
-
--- a turn of the loop, and its end
-pub mapped-step : (f : ℕ → ℕ) (n : ℕ) (l out : List ℕ) (v : ℕ) → n < length l → out ≡ mapped f n l → v ≡ f (get_or l n 0) → set out n v ≡ mapped f (n + 1) l
-mapped-step f n l out v h e q = rw (e, q, add-one) (mapped-set f n l h)
-
-pub mapped_end : (f : ℕ → ℕ) (n : ℕ) (l out : List ℕ) → out ≡ mapped f n l → n ≡ length l → out ≡ map f l
-mapped_end f n l out e q = e ∙ ap (λ (k : ℕ). mapped f k l) q ∙ mapped-all f l
+use Rattle.gf2.proofs.Unions.{∪-zero, ∪_assoc}
 
 -- ---- select: the XOR of the rows so far
 
@@ -105,22 +82,15 @@ unfolding whole
 whole_end S n rows left count l =
     ap (λ (r : List ℕ). take count left ++ r) (ap (within S) (coming-none n rows l) ∙ within-nil S) ∙ append-nil (take count left)
 
--- ---- union: the disks held so far, and those of the rows still to come, are those of all
+-- ---- union: the disks held so far, and those of the words still to come, are those of all
 
-unfoldable pub held_all : ℕ → ℕ → List ℕ → ℕ → ℕ
-held_all n i rows held = held ∪ union (coming i n rows)
-
-pub held_start : (n : ℕ) (rows : List ℕ) → held_all n 0 rows 0 ≡ union (take n rows)
-unfolding held_all
-held_start n rows = zero-∪ (union (take n rows))
-
-pub held_more : (n i : ℕ) (rows : List ℕ) (held : ℕ) → i < n → n ≤ length rows
-    → held_all n (i + 1) rows (bit_or held (get_or rows i 0)) ≡ held_all n i rows held
-unfolding held_all union
-held_more n i rows held h l =
+pub held_more : (words : List ℕ) (i held : ℕ) → i < length words
+    → bit_or held (get_or words i 0) ∪ union (drop (i + 1) words) ≡ held ∪ union (drop i words)
+unfolding union
+held_more words i held h =
     rw add-one
-    (∪_assoc held (get_or rows i 0) (union (coming (suc i) n rows)) ∙ ap (λ (bs : List ℕ). held ∪ union bs) (sym (coming-cons i n rows h l)))
+    (∪_assoc held (get_or words i 0) (union (drop (suc i) words)) ∙ ap (λ (bs : List ℕ). held ∪ union bs) (sym (drop-cons words i 0 h)))
 
-pub held_end : (n : ℕ) (rows : List ℕ) (held : ℕ) → n ≤ length rows → held_all n n rows held ≡ held
-unfolding held_all union
-held_end n rows held l = ap (λ (bs : List ℕ). held ∪ union bs) (coming-none n rows l) ∙ ∪-zero held
+pub held_end : (words : List ℕ) (i held : ℕ) → length words ≤ i → held ∪ union (drop i words) ≡ held
+unfolding union
+held_end words i held l = ap (λ (bs : List ℕ). held ∪ union bs) (drop_of_length-le words {i = i} l) ∙ ∪-zero held

@@ -4,17 +4,12 @@
 // The contracts cite specs/; what `within` means is said in specs/Theorems.antt.
 #![tactic(auto)]
 
-ghost use Rattle.std.specs.Prelude.{◌≡◌, not, map, ◌≢◌, ◌%◌, ◌^◌, ◌≤◌, ◌<◌, ltb, take, if◌then◌else◌};
+ghost use Rattle.std.specs.Prelude.{◌≡◌, not, map, ◌≢◌, ◌%◌, ◌^◌, ◌≤◌, ◌<◌, ltb, List, [], ◌∷◌, ◌++◌, ℕ, length, take, if◌then◌else◌};
 ghost use Rattle.gf2.specs.Sets.{has, size, first, set_of, ◌⊆◌, ◌∖◌, union};
 ghost use Rattle.gf2.specs.Span.{select};
 ghost use Rattle.gf2.specs.Within.{lowest, clear, within};
 
-// The first count rows; what stands after them means nothing.
-#[derive(Clone, Copy)]
-pub struct Basis {
-    pub rows: [u32; 16],
-    pub count: usize,
-}
+use std::marker::Model;
 
 // Whether disk d is in the set.
 pub fn has(set: u32, d: u32) -> bool
@@ -28,7 +23,7 @@ pub fn has(set: u32, d: u32) -> bool
 pub fn size(set: u32) -> u32
     ensures { result ≡ size set }
 {
-    u32::count_ones(set)
+    set.count_ones()
 }
 
 // Whether the set has no disk at n or above. At n = 32 every set is so.
@@ -36,10 +31,7 @@ pub fn below(set: u32, n: u32) -> bool
     requires { n ≤ 32 }
     ensures { result ≡ ltb set (2 ^ n) }
 {
-    if n == 32 {
-        return true;
-    }
-    set < 1u32 << n
+    (set as u64) < 1u64 << n
 }
 
 // The disks below n.
@@ -77,7 +69,7 @@ pub fn lowest(set: u32) -> u32
     requires { set ≢ 0 }
     ensures { (result ≡ lowest set) × (result < 32) }
 {
-    u32::trailing_zeros(set)
+    set.trailing_zeros()
 }
 
 // The set without disk d.
@@ -93,10 +85,7 @@ pub fn first_of(set: u32, n: u32) -> u32
     requires { n ≤ 32 }
     ensures { result ≡ set % 2 ^ n }
 {
-    if n < 32 {
-        return set % (1u32 << n);
-    }
-    set
+    (set as u64 % (1u64 << n)) as u32
 }
 
 // Row v, XORed with row b where v holds disk d.
@@ -108,15 +97,14 @@ fn cleared(d: u32, b: u32, v: u32) -> u32
 }
 
 // The same of all sixteen rows, which keeps them in registers.
-pub fn cleared_all(d: u32, b: u32, rows: [u32; 16]) -> [u32; 16]
+pub fn cleared_all(d: u32, b: u32, mut rows: [u32; 16]) -> [u32; 16]
     requires { d < 32 }
     ensures { result ≡ map (clear d b) rows }
 {
-    let mut out = rows;
-    for i in 0..16 {
-        out[i] = cleared(d, b, rows[i]);
+    for row in &mut rows {
+        *row = cleared(d, b, *row);
     }
-    out
+    rows
 }
 
 // The row where x selects it, being row i, else 0.
@@ -132,43 +120,101 @@ pub fn select(rows: [u32; 16], x: u32) -> u32
     ensures { result ≡ select rows x }
 {
     let mut word = 0;
-    for i in 0..16 {
-        word = word ^ chosen(x, i as u32, rows[i]);
+    for (i, row) in rows.iter().enumerate() {
+        word ^= chosen(x, i as u32, *row);
     }
     word
 }
 
-// What is left of the basis inside the set: a basis of the words of its span that lie inside.
-pub fn within(basis: Basis, set: u32) -> Basis
-    requires { basis.count ≤ 16 }
-    ensures { (result.count ≤ basis.count) × (take result.count result.rows ≡ within set (take basis.count basis.rows)) }
-{
-    let n = basis.count;
-    let mut rows = basis.rows;
-    let mut left = [0u32; 16];
-    let mut count = 0;
-    for i in 0..n {
-        let b = rows[i];
-        if inside(b, set) {
-            left[count] = b;
-            count += 1;
-        } else {
-            rows = cleared_all(lowest(outside(b, set)), b, rows);
-        }
-    }
-    Basis { rows: left, count }
+// A list of at most sixteen words, as the rows and the checks of a code are: the first count of the rows. What stands
+// after them means nothing, and no clause sees it.
+#[derive(Drop)]
+pub struct Basis {
+    rows: [u32; 16],
+    count: usize,
 }
 
-// The disks that some row of the basis holds: those that some word of its span holds.
-pub fn union(basis: Basis) -> u32
-    requires { basis.count ≤ 16 }
-    ensures { result ≡ union (take basis.count basis.rows) }
-{
-    let count = basis.count;
-    let rows = basis.rows;
-    let mut held = 0;
-    for i in 0..count {
-        held = held | rows[i];
+impl Model for Basis {
+    ghost Value = { List ℕ };
+
+    ghost view = { λ b. take b.count b.rows };
+
+    ghost invariant = { λ b. b.count ≤ 16 };
+}
+
+impl Basis {
+    // No words.
+    pub fn new() -> Self
+        ensures { result ≡ [] }
+    {
+        Basis {
+            rows: [0; 16],
+            count: 0,
+        }
     }
-    held
+
+    // The first count of the rows.
+    pub fn of(rows: [u32; 16], count: usize) -> Self
+        requires { count ≤ 16 }
+        ensures { result ≡ take count rows }
+    {
+        Basis { rows, count }
+    }
+
+    // One more word at the end.
+    pub fn push(&mut self, word: u32)
+        requires { length self.old < 16 }
+        ensures { self.new ≡ self.old ++ word ∷ [] }
+    {
+        self.rows[self.count] = word;
+        self.count += 1;
+    }
+
+    // The words.
+    pub fn words(&self) -> &[u32]
+        ensures value { result.now ≡ self.now }
+        ensures bound { length result.now ≤ 16 }
+    {
+        &self.rows[..self.count]
+    }
+
+    // All sixteen rows, for loops that keep them in registers: the words, and what stands after them.
+    pub fn rows(&self) -> [u32; 16]
+        ensures words { take (length self.now) result ≡ self.now }
+        ensures bound { length self.now ≤ 16 }
+    {
+        self.rows
+    }
+
+    // What is left of the basis inside the set: a basis of the words of its span that lie inside. The count of those that
+    // are left stands in a register, where pushes would keep it in memory.
+    pub fn within(&self, set: u32) -> Self
+        ensures value { result ≡ within set self.now }
+        ensures fewer { length result ≤ length self.now }
+    {
+        let mut rows = self.rows;
+        let mut left = [0; 16];
+        let mut count = 0;
+        for i in 0..self.count {
+            let b = rows[i];
+            if inside(b, set) {
+                left[count] = b;
+                count += 1;
+            } else {
+                rows = cleared_all(lowest(outside(b, set)), b, rows);
+            }
+        }
+        Basis { rows: left, count }
+    }
+
+    // The disks that some word of the basis holds: those that some word of its span holds.
+    pub fn union(&self) -> u32
+        ensures { result ≡ union self.now }
+    {
+        let mut held = 0;
+        for word in self.words() {
+            held |= *word;
+        }
+        held
+    }
 }

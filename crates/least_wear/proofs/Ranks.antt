@@ -40,8 +40,12 @@ pub weight-parity : (k : ℕ) (ws : List ℕ) (i : ℕ) → k ≤ i → weight_o
 weight-parity k ws i l = omega (arith, weight-at k ws i, if_false {A = ℕ} (ltb i k) 0 1 (λ t. let m = ltb_out i k t in omega arith))
 
 -- a byte's
-pub weight-most : (k : ℕ) (ws : List ℕ) (i : ℕ) → get_or ws i 0 < 256 → weight_of k ws i ≤ 522273
+weight-most : (k : ℕ) (ws : List ℕ) (i : ℕ) → get_or ws i 0 < 256 → weight_of k ws i ≤ 522273
 weight-most k ws i h = ⊎_elim (λ l. omega (arith, weight_data k ws i l)) (λ l. omega (arith, weight-parity k ws i l)) (below_or i k)
+
+-- and of any disk, where wears are bytes
+pub weights-most : (k : ℕ) (ws : List ℕ) → ((i : ℕ) → get_or ws i 0 < 256) → (i : ℕ) → weight_of k ws i ≤ 522273
+weights-most k ws h i = weight-most k ws i (h i)
 
 pub rank_is : (weight : ℕ → ℕ) (E : ℕ) → rank_of weight E ≡ sum_over 32 E weight * 2 ^ 32 + E
 unfolding rank_of

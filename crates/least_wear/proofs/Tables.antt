@@ -108,9 +108,8 @@ module _ (weight : ℕ → ℕ) where
       (λ l. omega (arith, table-after end p l))
       (below_or p end)
 
-  pub table_fits : (n : ℕ) (table : List ℕ) → n ≤ 32 → ((i : ℕ) → weight i ≤ 522273) → table ≡ table_to weight (places_for n) → Table table
-  table_fits n table l h e =
-      subst Table (sym e) (table-long (places_for n) (places-most n l), table-small h (places_for n))
+  pub table_fits : ((i : ℕ) → weight i ≤ 522273) → (end : ℕ) (table : List ℕ) → end ≤ 1024 → table ≡ table_to weight end → Table table
+  table_fits h end table l e = (ap length e ∙ table-long end l, λ p. subst (λ (t : List ℕ). get_or t p 0 < 2 ^ 24) (sym e) (table-small h end p))
 
   -- an entry of 0 stands there already
   pub table_skip : (p : ℕ) → p < 1024 → entry_of weight p ≡ 0 → table_to weight p ≡ table_to weight (p + 1)
@@ -125,7 +124,7 @@ module _ (weight : ℕ → ℕ) where
   -- ---- one more disk
 
   -- before disk i, the sets of its eight without it are there
-  pub disk-first : (i : ℕ) → i < 32 → table_to weight (places_for i) ≡ table_to weight (256 * (i / 8) + 2 ^ (i % 8))
+  disk-first : (i : ℕ) → i < 32 → table_to weight (places_for i) ≡ table_to weight (256 * (i / 8) + 2 ^ (i % 8))
   disk-first zero h = ap (table_to weight) places-none ∙ table_skip 0 (omega arith) (entry-none 0 refl)
   disk-first (suc i) h = go (two (suc i % 8))
     where
@@ -147,6 +146,13 @@ module _ (weight : ℕ → ℕ) where
         where
           lemma : suc i % 8 ≢ 0 → suc i % 8 ≡ suc (i % 8)
           lemma g = ⊎_elim (λ l. let z : suc i % 8 ≡ suc (i % 8) = omega arith in z) (λ l. absurd (g (omega arith))) (below_or (i % 8) 7)
+
+  -- the code's way to say where they end
+  pub disk-begun : (i at half : ℕ) (table : List ℕ) → i < 32 → at ≡ 256 * (i / 8) → half ≡ 2 ^ (i % 8) → table ≡ table_to weight (places_for i)
+      → table ≡ table_to weight (at + half + 0)
+  disk-begun i at half table l e f is =
+      let p : 256 * (i / 8) + 2 ^ (i % 8) ≡ at + half + 0 = omega arith in
+      is ∙ disk-first i l ∙ ap (table_to weight) p
 
   -- the next set with it
   pub disk-more : (i at half b d v : ℕ) (table : List ℕ) → i < 32 → at ≡ 256 * (i / 8) → half ≡ 2 ^ (i % 8) → b < half
@@ -231,6 +237,10 @@ module _ (weight : ℕ → ℕ) where
         ap (λ (x : ℕ). eight 2 (x % 256)) e,
         ap (eight 3) f,
       )
+
+-- the table of no disk
+pub none_fits : Table (replicate 1024 0)
+none_fits = table_fits (λ i. 0) (λ i. omega arith) (places_for 0) (replicate 1024 0) (places-most 0 (omega arith)) (table_empty (λ i. 0))
 
 pub table_ranks : TableRanks
 table_ranks weight n E one h l =

@@ -1,15 +1,16 @@
 -- A walk of the words of a span by steps, and the least of what is met.
 -- Assumes nothing.
-use mathlib.Core.Path.{◌≡◌, refl, sym, ap, ◌∙◌, subst}
-use mathlib.Core.Logic.{⊎_elim}
+use mathlib.Core.Path.{◌≡◌, sym, ap, ◌∙◌, subst}
+use mathlib.Core.Logic.{⊎_elim, ◌≢◌}
 use mathlib.Core.List.{List}
-use Prim.Native.Nat.{ℕ, zero, suc, ◌+◌, ◌-◌, ◌^◌, ◌≤◌, ◌<◌, min}
+use Prim.Native.Nat.{ℕ, ◌+◌, ◌-◌, ◌^◌, ◌≤◌, ◌<◌, min}
 use native.Mathlib.Omega.{arith}
 use lib.Bits.{bit_xor}
 use lib.ListN.{length, get_or, take}
 use Rattle.gf2.specs.Sets.{◌⊕◌}
 use Rattle.gf2.specs.Span.{select}
 use Rattle.gf2.specs.Within.{lowest}
+use Rattle.gf2.proofs.Subsets.{lowest_lt}
 use Rattle.gf2.proofs.Tests.{below_or}
 use Rattle.gf2.proofs.Xor.{⊕-zero}
 use Rattle.flat.specs.Lists.{tabulate}
@@ -18,31 +19,19 @@ use Rattle.minimal_words.proofs.Stepping.{word_none, word_next}
 use Rattle.minimal_marks.proofs.Entries.{end_small, select-take}
 use Rattle.least_wear.specs.Forms.{rank_in, LeastOf}
 
--- ---- steps
+-- ---- steps: from the word of the number before x to that of x
 
--- the word that x steps lead to
-pub walked : List ℕ → ℕ → ℕ
-walked steps zero = 0
-walked steps (suc x) = walked steps x ⊕ get_or steps (lowest (suc x)) 0
+module _ (words : List ℕ) (x i : ℕ) (few : length words ≤ 16) (f : x ≢ 0) (l : x < 2 ^ length words) (e : i ≡ lowest x) where
+  pub step_low : i < 16
+  step_low = rw e (lowest_lt 16 x f (omega (arith, end_small (length words) few)))
 
-pub walked_none : (steps : List ℕ) → 0 ≡ walked steps (1 - 1)
-unfolding walked
-walked_none steps = refl
-
-pub walked_next : (steps : List ℕ) (x i w : ℕ) → 1 ≤ x → i ≡ lowest x → w ≡ walked steps (x - 1) → bit_xor w (get_or steps i 0) ≡ walked steps x
-unfolding walked ◌⊕◌
-walked_next steps zero i w l e q = absurd (omega arith)
-walked_next steps (suc x) i w l e q =
-    let z : suc x - 1 ≡ x = omega arith in
-    ap (λ (y : ℕ). bit_xor y (get_or steps i 0)) (q ∙ ap (walked steps) z) ∙ ap (λ (y : ℕ). bit_xor (walked steps x) (get_or steps y 0)) e
-
--- it is the word that x selects
-walked_select : (rows steps : List ℕ) → steps ≡ tabulate 16 (step_of rows) → (x : ℕ) → x < 2 ^ 16 → walked steps x ≡ select rows x
-unfolding walked ◌⊕◌
-walked_select rows steps e zero l = word_none rows
-walked_select rows steps e (suc x) l =
-    let z : x ≡ suc x - 1 = omega arith in
-    word_next rows steps (suc x) (lowest (suc x)) (walked steps x) (λ q. omega arith) l refl e (walked_select rows steps e x (omega arith) ∙ ap (select rows) z)
+  pub step_word : (rows steps : List ℕ) (w : ℕ) → take (length words) rows ≡ words → length rows ≡ 16 → steps ≡ tabulate 16 (step_of rows)
+      → w ≡ select words (x - 1) → bit_xor w (get_or steps i 0) ≡ select words x
+  step_word rows steps w r long s q =
+      word_next rows steps x i w f (omega (arith, end_small (length words) few)) e s (q ∙ sym (same (x - 1) (omega arith))) ∙ same x l
+    where
+      same : (y : ℕ) → y < 2 ^ length words → select rows y ≡ select words y
+      same y g = select-take (length words) rows y (omega (arith, few, long)) g ∙ ap (λ (ws : List ℕ). select ws y) r
 
 -- ---- the least of some
 
@@ -83,17 +72,16 @@ least-same f g n r e h =
 
 -- ---- ranks met on a walk
 
--- what is met after x steps
+-- what the word of number x makes of the set E
 abbrev pub met : List ℕ → ℕ → List ℕ → ℕ → ℕ
-met table E steps x = rank_in table (E ⊕ walked steps x)
+met table E words x = rank_in table (E ⊕ select words x)
 
-pub met-first : (table : List ℕ) (E : ℕ) (steps : List ℕ) (r : ℕ) → r ≡ rank_in table E → r ≡ met table E steps 0
-unfolding walked
-met-first table E steps r e = e ∙ ap (rank_in table) (sym (⊕-zero E))
+pub met_first : (table : List ℕ) (E : ℕ) (words : List ℕ) (r : ℕ) → r ≡ rank_in table E → LeastOf (met table E words) 1 r
+met_first table E words r e =
+    least-one (met table E words) r (e ∙ ap (rank_in table) (sym (⊕-zero E) ∙ ap (λ (w : ℕ). E ⊕ w) (word_none words)))
 
-pub met_all : (table : List ℕ) (E c : ℕ) (rows steps : List ℕ) (end r : ℕ) → c ≤ 16 → c ≤ length rows → steps ≡ tabulate 16 (step_of rows) → end ≡ 2 ^ c
-    → LeastOf (met table E steps) end r → LeastOf (λ x. rank_in table (E ⊕ select (take c rows) x)) (2 ^ c) r
-met_all table E c rows steps end r few long e at h =
-    least-same (met table E steps) (λ x. rank_in table (E ⊕ select (take c rows) x)) (2 ^ c) r
-    (λ x l. ap (λ (w : ℕ). rank_in table (E ⊕ w)) (walked_select rows steps e x (omega (arith, end_small c few)) ∙ select-take c rows x long l))
-    (subst (λ (n : ℕ). LeastOf (met table E steps) n r) at h)
+pub met_more : (table : List ℕ) (E : ℕ) (words : List ℕ) (x v w r : ℕ) → LeastOf (met table E words) x r → w ≡ select words x
+    → v ≡ rank_in table (bit_xor E w) → LeastOf (met table E words) (x + 1) (min v r)
+unfolding ◌⊕◌
+met_more table E words x v w r h e q =
+    least_more (met table E words) x v r h (q ∙ ap (λ (u : ℕ). rank_in table (bit_xor E u)) e)

@@ -5,84 +5,49 @@
 // is answered for which input in flat/specs/Faults.antt.
 #![tactic(auto)]
 
-ghost use Rattle.std.specs.Prelude.{◌≡◌, ℕ, ◌+◌, ◌*◌, ◌≤◌, eqb, length};
-ghost use Rattle.flat.specs.Cards.{code_in, card_of};
-ghost use Rattle.flat.specs.Alike.{rearranged};
-ghost use Rattle.flat.specs.Faults.{yes_no, alike_report};
+ghost use Rattle.std.specs.Prelude.{◌≡◌, ◌+◌};
+ghost use Rattle.flat.specs.Cards.{card_of};
+ghost use Rattle.flat.specs.Alike.{occurrences, rearranged};
+ghost use Rattle.flat.specs.Faults.{alike_report};
 ghost use Rattle.likeness.specs.Reports.{report};
-ghost use Rattle.likeness.specs.Forms.{standing};
 
-use card::{CardCheck, CardFault, Edition};
+use card::{CardFault, Code, Edition};
 
-// Alike or not, or the fault of the first card that has one.
-#[derive(Clone, Copy)]
-pub enum Likeness {
-    Alike,
-    Different,
-    Card(CardFault),
-}
-
-// 1 where two columns are equal, else 0.
-fn equal(a: u16, b: u16) -> u16
-    ensures { result ≡ yes_no (eqb a b) }
-{
-    if a == b {
-        return 1;
-    }
-    0
-}
-
-// The balance of a column that stands as often in both cards.
+// The balance of a column that stands as often in both codes.
 const LEVEL: u16 = 16;
 
-// The balance of c: up from level for each of the m columns of the one card that is c, and down for each of the
-// other's. It is as wide as a column, so that the compiler compares and counts eight of each at once.
-fn balance(own: &[u8], other: &[u8], m: usize, c: u16) -> u16
-    requires { (m ≤ 16) × (length own.now ≡ 2 * m) × (length other.now ≡ 2 * m) }
-    ensures { result + standing m other.now c ≡ 16 + standing m own.now c }
+// The balance of a column: up from level for each column of the one code that is equal to it, and down for each of the
+// other's. It is as wide as a column, so that the compiler compares and counts eight of each at once. The columns are counted
+// by the other's m, the same number, which the compiler still has in a register.
+fn balance(own: &Code<'_>, other: &Code<'_>, column: u16) -> u16
+    requires { own.now.m ≡ other.now.m }
+    ensures { result + occurrences other.now column ≡ 16 + occurrences own.now column }
 {
     let mut balance = LEVEL;
-    for i in 0..m {
-        balance = balance + equal(card::column(own, i), c) - equal(card::column(other, i), c);
+    for i in 0..other.m() {
+        let up = u16::from(own.column(i) == column);
+        let down = u16::from(other.column(i) == column);
+        balance = balance + up - down;
     }
     balance
 }
 
-// Whether the m columns of two cards are a rearrangement of each other. With as many in both, it is enough
+// Whether the columns of two codes are a rearrangement of each other. With as many in both, it is enough
 // to look at those of the first.
-fn rearranged(first: &[u8], second: &[u8], m: usize) -> bool
-    requires { (m ≤ 16) × (length first.now ≡ 2 * m) × (length second.now ≡ 2 * m) }
-    ensures { (k : ℕ) → result ≡ rearranged (code_in k m first.now) (code_in k m second.now) }
+fn rearranged(first: &Code<'_>, second: &Code<'_>) -> bool
+    requires { first.now.m ≡ second.now.m }
+    ensures { result ≡ rearranged first.now second.now }
 {
-    for j in 0..m {
-        if balance(first, second, m, card::column(first, j)) != LEVEL {
-            return false;
-        }
-    }
-    true
+    (0..first.m()).all(|j| balance(first, second, first.column(j)) == LEVEL)
 }
 
 // Whether two cards are alike, the first in edition a and the second in edition b. The first card's
 // refusals come before the second's.
-pub fn alike(a: Edition, first: &[u8], b: Edition, second: &[u8]) -> Likeness
+#[tactic(auto, using(card::proofs::Callers::good_with, card::proofs::Callers::bad_card), unfolding(flat::specs::Faults::alike_report))]
+pub fn alike(a: Edition, first: &[u8], b: Edition, second: &[u8]) -> Result<bool, CardFault>
     ensures { report result ≡ alike_report (card_of a first.now) (card_of b second.now) }
 {
-    match card::check(a, first) {
-        CardCheck::Bad(fault) => Likeness::Card(fault),
-        CardCheck::Good { k, m } => match card::check(b, second) {
-            CardCheck::Bad(fault) => Likeness::Card(fault),
-            CardCheck::Good { k: data, m: parity } => {
-                if k != data {
-                    return Likeness::Different;
-                }
-                if m != parity {
-                    return Likeness::Different;
-                }
-                if rearranged(card::columns(a, first), card::columns(b, second), m) {
-                    return Likeness::Alike;
-                }
-                Likeness::Different
-            }
-        },
-    }
+    let own = card::check(a, first)?;
+    let other = card::check(b, second)?;
+    Ok(own.k() == other.k() && own.m() == other.m() && rearranged(&own, &other))
 }

@@ -1,4 +1,4 @@
-pub mod Marks
+pub mod Marking
 pub mod Entries
 pub mod Counting
 pub mod Passes

@@ -167,17 +167,19 @@ loop_two w left start rows f h g n e k =
 
 -- ---- the loop begins with the rows that x picks, and what it tells of them is so of all rows
 
-module _ (n count w x : ℕ) (rows : List ℕ) (s : Systematic n (take count rows)) (h : x < 2 ^ count) (e : w ≡ select (take count rows) x) where
+module _ (n w x : ℕ) (bs rows : List ℕ) (r : take (length bs) rows ≡ bs) (s : Systematic n bs) (h : x < 2 ^ length bs) (e : w ≡ select bs x) where
+  same-picked : picked bs x ≡ picked rows x
+  same-picked = ap (λ (l : List ℕ). picked l x) (sym r) ∙ picked-take (length bs) rows x h
+
   pub loop_start : Going w (picked rows x) (picked rows x)
   loop_start =
-      let q = picked-take count rows x h in
       record {
-        indep = subst Independent q (picked-indep (take count rows) x (owned_indep n (take count rows) s));
-        word = ap sum (sym q) ∙ sum-picked (take count rows) x ∙ sym e;
+        indep = subst Independent same-picked (picked-indep bs x (owned_indep n bs s));
+        word = ap sum (sym same-picked) ∙ sum-picked bs x ∙ sym e;
         same = refl;
       }
 
-  pub loop_answer : eqb (length (within w (picked rows x))) 1 ≡ eqb (length (within w (take count rows))) 1
+  pub loop_answer : eqb (length (within w (picked rows x))) 1 ≡ eqb (length (within w bs)) 1
   loop_answer =
-      ap₂ (λ (v : ℕ) (l : List ℕ). eqb (length (within v l)) 1) e (sym (picked-take count rows x h))
-      ∙ picked-one n (take count rows) s x ∙ ap (λ (v : ℕ). eqb (length (within v (take count rows))) 1) (sym e)
+      ap₂ (λ (v : ℕ) (l : List ℕ). eqb (length (within v l)) 1) e (sym same-picked)
+      ∙ picked-one n bs s x ∙ ap (λ (v : ℕ). eqb (length (within v bs)) 1) (sym e)

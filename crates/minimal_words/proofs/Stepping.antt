@@ -2,14 +2,15 @@
 -- Assumes nothing.
 use mathlib.Core.Path.{◌≡◌, sym, ap, ap₂, ◌∙◌, subst}
 use mathlib.Core.Logic.{◌⊎◌, inl, inr, ◌≢◌}
-use mathlib.Core.List.{List}
+use mathlib.Core.List.{List, ◌∷◌, ◌++◌}
 use Prim.Native.Nat.{ℕ, zero, suc, ◌+◌, ◌-◌, ◌*◌, ◌/◌, ◌%◌, ◌^◌, ◌<◌}
-use native.Mathlib.Nat.{mod-lt, zero-lt-suc}
+use native.Mathlib.Nat.{mod-lt, zero-lt-suc, sub_self}
 use native.Mathlib.Numerals.{add-one}
 use native.Mathlib.Omega.{arith}
 use lib.Bits.{bit_xor, xor_step, xor_self, xor_shifted}
 use lib.Count.{count_trailing_zeros}
-use lib.ListN.{length, get_or}
+use lib.ListN.{length, get_or, set, drop}
+use lib.Seq.{drop-cons, append_snoc}
 use lib.Pow.{pow_pos}
 use Rattle.gf2.specs.Sets.{◌⊕◌}
 use Rattle.gf2.specs.Span.{select}
@@ -19,7 +20,8 @@ use Rattle.gf2.proofs.Xor.{⊕_comm, ⊕-back}
 use Rattle.gf2.proofs.Subsets.{lowest_trailing, lowest_lt}
 use Rattle.gf2.proofs.Sums.{over_none, over-disk, select-⊕}
 use Rattle.flat.specs.Lists.{tabulate}
-use Rattle.flat.proofs.Lists.{get_d_tabulate}
+use Rattle.flat.proofs.Lists.{length-tabulate, get_d_tabulate, tabulate-more}
+use Rattle.std.proofs.lemmas.List.{get_or-append_right, set-append_right}
 use Rattle.minimal_words.specs.Listed.{step_of}
 
 -- x and the number before it differ in the bits up to the lowest of x
@@ -76,3 +78,18 @@ step-next rows t sum l e =
     let all : 2 ^ t ⊕ (2 ^ t - 1) ≡ 2 ^ (t + 1) - 1 = ap (λ (x : ℕ). bit_xor x (2 ^ t - 1)) (sym one) ∙ low ∙ omega arith in
     ap₂ bit_xor e (sym (over-disk (length rows) t (λ i. get_or rows i 0) l)) ∙ ⊕_comm (select rows (2 ^ t - 1)) (select rows (2 ^ t))
     ∙ sym (select-⊕ rows (2 ^ t) (2 ^ t - 1)) ∙ ap (select rows) all
+
+-- rows that are gone through in place, where f of the places before i stands in them: the next, and the same of one more
+module _ (f : ℕ → ℕ) (rows ys : List ℕ) (i : ℕ) (h : i < length rows) (e : ys ≡ tabulate i f ++ drop i rows) where
+  pub place-next : get_or ys i 0 ≡ get_or rows i 0
+  place-next =
+      ap (λ (l : List ℕ). get_or l i 0) (e ∙ ap (λ (l : List ℕ). tabulate i f ++ l) (drop-cons rows i 0 h))
+      ∙ get_or-append_right (tabulate i f) (get_or rows i 0 ∷ drop (suc i) rows) i i 0 (length-tabulate i f) (omega arith)
+      ∙ rw sub_self
+
+  pub place_more : (v : ℕ) → v ≡ f i → set ys i v ≡ tabulate (i + 1) f ++ drop (i + 1) rows
+  place_more v q =
+      rw (add-one, tabulate-more, append_snoc)
+      (ap (λ (l : List ℕ). set l i v) (e ∙ ap (λ (l : List ℕ). tabulate i f ++ l) (drop-cons rows i 0 h))
+      ∙ set-append_right (tabulate i f) (get_or rows i 0 ∷ drop (suc i) rows) i i v (length-tabulate i f) (omega arith)
+      ∙ rw (sub_self, q))

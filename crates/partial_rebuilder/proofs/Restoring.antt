@@ -3,7 +3,7 @@
 use mathlib.Core.Path.{◌≡◌, sym, ap, ◌∙◌, subst}
 use mathlib.Core.Bool.{Bool, true, false}
 use mathlib.Core.List.{List, [], ◌∷◌}
-use Prim.Native.Nat.{ℕ, ◌+◌, ◌*◌, ◌≤◌}
+use Prim.Native.Nat.{ℕ, ◌*◌, ◌≤◌}
 use lib.Dec.{T}
 use lib.ListN.{length}
 use Rattle.std.specs.Prelude.{if◌then◌else◌}
@@ -11,7 +11,7 @@ use Rattle.gf2.specs.Sets.{has, ◌∖◌, ◌⊆◌, union}
 use Rattle.gf2.specs.Within.{within}
 use Rattle.gf2.proofs.Subsets.{⊆_in, ⊆-refl, ∖_out}
 use Rattle.flat.specs.Lists.{Bytes}
-use Rattle.flat.specs.Cards.{Code, code, disks}
+use Rattle.flat.specs.Cards.{Code, disks}
 use Rattle.flat.specs.Erasures.{undetermined_set, determined_set}
 use Rattle.flat.specs.Spans.{rows}
 use Rattle.flat.specs.Rebuilding.{agreeing, restored}
@@ -25,10 +25,7 @@ use Rattle.partial_rebuilding.specs.Faults.{found_report}
 pub targets_lost : (D S u : ℕ) → D ≡ S ∖ u → T (D ⊆ S)
 targets_lost D S u e = ⊆_in D S (λ i t. (∖_out S u i (subst (λ (x : ℕ). T (has x i)) e t)).0)
 
-module _ (k m : ℕ) (columns : List ℕ) (L S : ℕ) (stripe : List ℕ) (bs : List ℕ) (u : ℕ) (is : bs ≡ rows (code k m columns)) (eu : u ≡ union (within S bs)) where
-  abbrev C : Code
-  C = code k m columns
-
+module _ (C : Code) (L S : ℕ) (stripe : List ℕ) (bs : List ℕ) (u : ℕ) (is : bs ≡ rows C) (eu : u ≡ union (within S bs)) where
   told : u ≡ undetermined_set C S
   told = eu ∙ undetermined-is C S bs is
 
@@ -47,10 +44,9 @@ module _ (k m : ℕ) (columns : List ℕ) (L S : ℕ) (stripe : List ℕ) (bs : 
         some-report C L S stripe long bytes r e (found_report (undetermined_set C S)) (accepted (u ∷ []))
         (λ c cs. ap (λ (x : ℕ). accepted (x ∷ [])) told) t
 
-    pub brought-back : (D : ℕ) (after : List ℕ) → D ≡ S ∖ u → length stripe ≡ (k + m) * L → r ≡ true
-        → after ≡ (if r then filled (k + m) L (equation_among C S) D stripe else stripe)
+    pub brought-back : (D : ℕ) (after : List ℕ) → D ≡ S ∖ u → length stripe ≡ disks C * L → r ≡ true
+        → after ≡ (if r then filled (disks C) L (equation_among C S) D stripe else stripe)
         → after ≡ restored C L (determined_set C S) stripe (agreeing C L S stripe)
-    unfolding disks
     brought-back D after ed whole t q =
         let same = ed ∙ targets_are in
         restored-some C L S stripe long bytes r e D after whole (subst (λ (x : ℕ). T (x ⊆ determined_set C S)) (sym same) (⊆-refl (determined_set C S))) t q

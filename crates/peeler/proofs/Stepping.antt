@@ -6,8 +6,7 @@ use mathlib.Core.List.{List}
 use Prim.Native.Nat.{ℕ, zero, suc, ◌+◌, ◌-◌, ◌^◌, ◌<◌}
 use native.Mathlib.Omega.{arith}
 use lib.Dec.{T}
-use lib.ListN.{get_or, take}
-use lib.Seq.{get_or-take}
+use lib.ListN.{get_or, length}
 use Rattle.gf2.specs.Sets.{has, ◌∖◌}
 use Rattle.gf2.proofs.Tests.{if_true, if_false}
 use Rattle.gf2.proofs.Subsets.{∖_out}
@@ -21,10 +20,10 @@ use Rattle.peeling.specs.Peeling.{can_step, next_disk, next_check, less_next, wi
 use Rattle.peeler.specs.Forms.{found}
 use Rattle.peeler.proofs.Finding.{next-found}
 
--- the checks of the code, in an array
-pub check-at : (C : Code) (rows : List ℕ) → take C.m rows ≡ checks C → (j : ℕ) → j < C.m → get_or rows j 0 ≡ check C j
+-- the checks of the code, in a list
+pub check_at : (C : Code) (words : List ℕ) → words ≡ checks C → (j : ℕ) → j < C.m → get_or words j 0 ≡ check C j
 unfolding checks
-check-at C rows e j l = sym (get_or-take C.m rows j 0 l) ∙ ap (λ (ws : List ℕ). get_or ws j 0) e ∙ get_d_tabulate C.m (check C) j l
+check_at C words e j l = ap (λ (ws : List ℕ). get_or ws j 0) e ∙ get_d_tabulate C.m (check C) j l
 
 -- a step's disk is none of the others
 pub none_other : (word disk others : ℕ) → others ≡ word ∖ disk → (i : ℕ) → T (has others i) → T (has disk i) → ⊥
@@ -54,7 +53,7 @@ unfolding peeled
 moved C L b S stripe t = if_true (can_step C S) (more (peeled C L b (less_next C S) (with_next C L S stripe))) (rest S stripe) t
 
 -- what was found, told of the code
-module _ (C : Code) (L budget : ℕ) (whole : Peeled) (rows : List ℕ) (is : take C.m rows ≡ checks C) where
+module _ (C : Code) (L budget : ℕ) (whole : Peeled) (words : List ℕ) (is : words ≡ checks C) (many : length words ≡ C.m) where
   -- nothing is left to do
   ended : (made left : ℕ) (stripe : List ℕ) → peeled C L (budget - made) left stripe ≡ rest left stripe → Going C L budget whole made left stripe
       → (made ≡ whole.steps) × (left ≡ whole.left) × (stripe ≡ whole.stripe)
@@ -62,11 +61,11 @@ module _ (C : Code) (L budget : ℕ) (whole : Peeled) (rows : List ℕ) (is : ta
       let w : record { steps = made + 0; left = left; stripe = stripe } ≡ whole = ap (plus made) (sym e) ∙ going in
       ((let z : made ≡ made + 0 = omega arith in z) ∙ ap (λ (r : Peeled). r.steps) w, ap (λ (r : Peeled). r.left) w, ap (λ (r : Peeled). r.stripe) w)
 
-  pub going_stuck : (made left : ℕ) (stripe : List ℕ) → (found rows left C.m).set ≡ 0 → Going C L budget whole made left stripe
+  pub going_stuck : (made left : ℕ) (stripe : List ℕ) → (found words left (length words)).set ≡ 0 → Going C L budget whole made left stripe
       → (made ≡ whole.steps) × (left ≡ whole.left) × (stripe ≡ whole.stripe)
   going_stuck made left stripe z =
       ended made left stripe
-      (stuck C L (budget - made) left stripe (λ t. (next-found C left rows (check-at C rows is)).0.0 t z))
+      (stuck C L (budget - made) left stripe (λ t. (next-found C left words (check_at C words is)).0.0 t (subst (λ (n : ℕ). (found words left n).set ≡ 0) many z)))
 
   pub going_spent : (made left : ℕ) (stripe : List ℕ) → made ≡ budget → Going C L budget whole made left stripe
       → (made ≡ whole.steps) × (left ≡ whole.left) × (stripe ≡ whole.stripe)
@@ -76,12 +75,14 @@ module _ (C : Code) (L budget : ℕ) (whole : Peeled) (rows : List ℕ) (is : ta
 
   -- a step
   pub going_more : (made left : ℕ) (stripe : List ℕ) (disk others after : ℕ) (new : List ℕ) → made < budget
-      → disk ≡ (found rows left C.m).set → disk ≢ 0 → others ≡ (found rows left C.m).word ∖ disk
+      → disk ≢ 0 → disk ≡ (found words left (length words)).set → others ≡ (found words left (length words)).word ∖ disk
       → new ≡ filled (disks C) L (λ d. others) disk stripe → after ≡ left ∖ disk
       → Going C L budget whole made left stripe → Going C L budget whole (made + 1) after new
   unfolding less_next with_next
-  going_more made left stripe disk others after new l ed nz eo en ea going =
-      let f = next-found C left rows (check-at C rows is) in
+  going_more made left stripe disk others after new l nz found_disk found_others en ea going =
+      let ed : disk ≡ (found words left C.m).set = subst (λ (n : ℕ). disk ≡ (found words left n).set) many found_disk in
+      let eo : others ≡ (found words left C.m).word ∖ disk = subst (λ (n : ℕ). others ≡ (found words left n).word ∖ disk) many found_others in
+      let f = next-found C left words (check_at C words is) in
       let t : T (can_step C left) = f.0.1 (λ z. nz (ed ∙ z)) in
       let d = next_disk C left in
       let p = f.1 t in

@@ -1,72 +1,65 @@
 // Quick repair of one stripe, document 02's request [1]: easy losses mended step by step, each by one check. In
 // the field's words, peeling.
 //
-// The columns are those of an accepted card, and the stripe has as many bytes as the code's strips. What a step
-// is, and what all of them do, is said in peeling/specs/Peeling.antt.
+// The code is that of an accepted card, and the stripe has as many bytes as its strips. What a step is, and what
+// all of them do, is said in peeling/specs/Peeling.antt.
 #![tactic(auto)]
 
-ghost use Rattle.std.specs.Prelude.{◌≡◌, ℕ, ◌+◌, ◌*◌, ◌≤◌, T, length};
+ghost use Rattle.std.specs.Prelude.{◌≡◌, ◌≢◌, ℕ, ◌*◌, ◌≤◌, T, length, MatchOption};
 ghost use Rattle.gf2.specs.Sets.{has, ◌∖◌};
-ghost use Rattle.flat.specs.Cards.{code_in};
+ghost use Rattle.flat.specs.Cards.{disks};
 ghost use Rattle.flat.specs.Repairs.{filled};
-ghost use Rattle.card.specs.Columns.{Columns};
 ghost use Rattle.peeling.specs.Peeling.{peeled};
 ghost use Rattle.peeler.specs.Forms.{better, found};
 
+use card::Code;
 use gf2::Basis;
 
-// A step: the disk that it restores, as a set, and the others of its check. Both are empty where there is none.
+// A step: the disk that it restores, as a set, and the others of its check.
 #[derive(Clone, Copy)]
 struct Step {
     disk: u32,
     others: u32,
 }
 
-// Whether the members c of a check that are lost are one disk, and a lower one than was found; none is the
+// Whether the members of a check that are lost are one disk, and a lower one than was found; none is the
 // empty set.
-fn better(c: u32, found: u32) -> bool
-    ensures { result ≡ better c found }
+fn better(lost: u32, found: u32) -> bool
+    ensures { result ≡ better lost found }
 {
-    if gf2::size(c) != 1 {
-        return false;
-    }
-    if found == 0 {
-        return true;
-    }
-    c < found
+    gf2::size(lost) == 1 && (found == 0 || lost < found)
 }
 
-// The step of the rule, in one pass over the checks: the lowest lone disk, and the first of its checks.
-fn next(checks: Basis, left: u32) -> Step
-    requires { checks.count ≤ 16 }
-    ensures disk_value { result.disk ≡ (found checks.rows left checks.count).set }
-    ensures others_value { result.others ≡ (found checks.rows left checks.count).word ∖ result.disk }
+// The step of the rule, if there is one, in one pass over the checks: the lowest lone disk, and the first of its
+// checks.
+fn next(checks: &Basis, left: u32) -> Option<Step>
+    ensures { MatchOption result ((found checks.now left (length checks.now)).set ≡ 0) (λ step. (step.disk ≢ 0) × (step.disk ≡ (found checks.now left (length checks.now)).set) × (step.others ≡ (found checks.now left (length checks.now)).word ∖ step.disk)) }
 {
-    let m = checks.count;
-    let rows = checks.rows;
     let mut disk = 0u32;
     let mut word = 0u32;
-    for j in 0..m {
-        let row = rows[j];
-        let c = row & left;
-        if better(c, disk) {
-            disk = c;
-            word = row;
+    for check in checks.words() {
+        let lost = *check & left;
+        if better(lost, disk) {
+            disk = lost;
+            word = *check;
         }
     }
-    Step {
+    if disk == 0 {
+        return None;
+    }
+    Some(Step {
         disk,
         others: gf2::outside(word, disk),
-    }
+    })
 }
 
 // A step's disk gets the XOR of the others' strips.
-fn mend(s: &mut [u8], l: usize, n: usize, disk: u32, others: u32)
-    requires le_l { (1 ≤ l) × (n ≤ 32) × (n * l ≡ length s.old) }
-    requires by_index { (i : ℕ) → T (has others i) → T (has disk i) → ⊥ }
-    ensures { s.new ≡ filled n l (λ d. others) disk s.old }
+fn mend(s: &mut [u8], l: usize, n: usize, step: Step)
+    requires sizes { (1 ≤ l) × (n ≤ 32) × (n * l ≡ length s.old) }
+    requires apart { (i : ℕ) → T (has step.others i) → T (has step.disk i) → ⊥ }
+    ensures { s.new ≡ filled n l (λ d. step.others) step.disk s.old }
 {
-    strips::fill(s, l, n, disk, [others; 32]);
+    strips::fill(s, l, n, step.disk, [step.others; 32]);
 }
 
 // How many steps were made, and what is left of the lost set.
@@ -77,32 +70,21 @@ pub struct Made {
 }
 
 // One stripe: steps until it sticks or the budget is used up.
-pub fn peel(
-    columns: &[u8],
-    k: usize,
-    m: usize,
-    l: usize,
-    lost: u32,
-    budget: usize,
-    stripe: &mut [u8],
-) -> Made
-    requires columns { Columns k m columns.now }
-    requires le_l { (1 ≤ l) × (length stripe.old ≡ (k + m) * l) }
-    ensures steps_value { result.steps ≡ (peeled (code_in k m columns.now) l budget lost stripe.old).steps }
-    ensures left_value { result.left ≡ (peeled (code_in k m columns.now) l budget lost stripe.old).left }
-    ensures stripe_after { stripe.new ≡ (peeled (code_in k m columns.now) l budget lost stripe.old).stripe }
+pub fn peel(code: &Code<'_>, l: usize, lost: u32, budget: usize, stripe: &mut [u8]) -> Made
+    requires { (1 ≤ l) × (length stripe.old ≡ disks code.now * l) }
+    ensures steps { result.steps ≡ (peeled code.now l budget lost stripe.old).steps }
+    ensures left { result.left ≡ (peeled code.now l budget lost stripe.old).left }
+    ensures stripe { stripe.new ≡ (peeled code.now l budget lost stripe.old).stripe }
 {
-    let checks = bases::checks(columns, k, m);
-    let n = k + m;
+    let checks = bases::checks(code);
+    let n = code.n();
     let mut left = lost;
     for steps in 0..budget {
-        let step = next(checks, left);
-        let disk = step.disk;
-        if disk == 0 {
+        let Some(step) = next(&checks, left) else {
             return Made { steps, left };
-        }
-        mend(stripe, l, n, disk, step.others);
-        left = gf2::outside(left, disk);
+        };
+        mend(stripe, l, n, step);
+        left = gf2::outside(left, step.disk);
     }
     Made {
         steps: budget,

@@ -4,7 +4,7 @@ use mathlib.Core.Path.{◌≡◌, refl, sym, subst}
 use mathlib.Core.Bool.{Bool, true, false}
 use mathlib.Core.Logic.{◌≢◌}
 use mathlib.Core.List.{List, [], ◌∷◌}
-use Prim.Native.Nat.{ℕ, ◌+◌, ◌*◌, ◌≤◌}
+use Prim.Native.Nat.{ℕ, ◌*◌, ◌≤◌}
 use lib.Dec.{T}
 use lib.ListN.{length}
 use Rattle.std.specs.Prelude.{if◌then◌else◌}
@@ -13,7 +13,7 @@ use Rattle.gf2.specs.Within.{within}
 use Rattle.gf2.proofs.Tests.{T_true, T_false}
 use Rattle.gf2.proofs.Subsets.{⊆-refl}
 use Rattle.flat.specs.Lists.{Bytes}
-use Rattle.flat.specs.Cards.{Code, code, disks}
+use Rattle.flat.specs.Cards.{Code, disks}
 use Rattle.flat.specs.Erasures.{fatal}
 use Rattle.flat.specs.Spans.{rows}
 use Rattle.flat.specs.Rebuilding.{agreeing, restored}
@@ -28,10 +28,7 @@ past_fatal : (C : Code) (L S : ℕ) (stripe : List ℕ) → (T (fatal C S) → �
 unfolding disks_report
 past_fatal C L S stripe f e = simp (T_false {b = fatal C S} f) e
 
-module _ (k m : ℕ) (columns : List ℕ) (L S : ℕ) (stripe : List ℕ) where
-  abbrev C : Code
-  C = code k m columns
-
+module _ (C : Code) (L S : ℕ) (stripe : List ℕ) where
   -- by the undetermined disks
   module _ (bs : List ℕ) (r : ℕ) (is : bs ≡ rows C) (e : r ≡ union (within S bs)) where
     pub fatal-report : r ≢ 0 → refused 11 [] ≡ disks_report C L S stripe
@@ -52,8 +49,7 @@ module _ (k m : ℕ) (columns : List ℕ) (L S : ℕ) (stripe : List ℕ) where
     restored-report t =
         past_fatal C L S stripe safe (some-report C L S stripe long bytes r e (survivors_report S) (accepted (size S ∷ [])) (λ c cs. refl) t)
 
-    pub all-restored : (after : List ℕ) → length stripe ≡ (k + m) * L → r ≡ true
-        → after ≡ (if r then filled (k + m) L (equation_among C S) S stripe else stripe) → after ≡ restored C L S stripe (agreeing C L S stripe)
-    unfolding disks
+    pub all-restored : (after : List ℕ) → length stripe ≡ disks C * L → r ≡ true
+        → after ≡ (if r then filled (disks C) L (equation_among C S) S stripe else stripe) → after ≡ restored C L S stripe (agreeing C L S stripe)
     all-restored after whole t q =
         restored-some C L S stripe long bytes r e S after whole (subst (λ (D : ℕ). T (S ⊆ D)) (sym (all-determined C S safe)) (⊆-refl S)) t q

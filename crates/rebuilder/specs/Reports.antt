@@ -1,17 +1,16 @@
--- Document 01's number and values for each case of the answer of this crate.
+-- The documents' number and values for each case of the answer of this crate.
 -- Assumes nothing.
-use Rattle.std.specs.Prelude.{[], ◌∷◌}
+use Rattle.std.specs.Prelude.{[], ◌∷◌, ℕ, Result, Ok, Err}
 use Rattle.flat.specs.Faults.{Report, accepted, refused}
 use Rattle.card.specs.Reports.{fault_report}
-use Rattle.rebuilder.specs.declared.Rebuilt.{Rebuilt}
-use Rattle.rebuilder.specs.declared.Rebuilt.TheVariants as rebuilt
+use Rattle.restorer.specs.Reports.{fault_report as stripe_fault_report}
+use Rattle.rebuilder.specs.declared.RebuildError.{RebuildError}
+use Rattle.rebuilder.specs.declared.RebuildError.TheVariants.{Card, Stripe, Fatal, Inconsistent}
 
--- the rebuilder
-abbrev pub report : Rebuilt → Report
-report (rebuilt.Disks n) = accepted (n ∷ [])
-report (rebuilt.Card f) = fault_report f
-report rebuilt.StripLength = refused 6 []
-report rebuilt.OutsideSet = refused 8 []
-report rebuilt.StripeLength = refused 7 []
-report rebuilt.Fatal = refused 11 []
-report rebuilt.Inconsistent = refused 12 []
+-- the rebuilder: how many disks were lost, or why nothing was rebuilt
+abbrev pub report : Result ℕ RebuildError → Report
+report (Ok n) = accepted (n ∷ [])
+report (Err (Card f)) = fault_report f
+report (Err (Stripe f)) = stripe_fault_report f
+report (Err Fatal) = refused 11 []
+report (Err Inconsistent) = refused 12 []

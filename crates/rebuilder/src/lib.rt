@@ -5,82 +5,86 @@
 // decided.
 #![tactic(auto)]
 
-ghost use Rattle.std.specs.Prelude.{◌≡◌, ◌+◌, ◌*◌, ◌^◌, ◌<◌, ◌≤◌, length};
-ghost use Rattle.flat.specs.Cards.{code_in, card_of};
+ghost use Rattle.std.specs.Prelude.{◌≡◌, ◌*◌, ◌^◌, ◌<◌, ◌≤◌, length};
+ghost use Rattle.flat.specs.Cards.{disks, card_of};
 ghost use Rattle.flat.specs.Rebuilding.{agreeing, restored};
 ghost use Rattle.flat.specs.Faults.{unless_refused, disks_report, rebuild_tests, rebuild_report, rebuild_stripe};
-ghost use Rattle.card.specs.Columns.{Columns};
+ghost use Rattle.rebuilder.specs.declared.RebuildError.TheVariants.{Card, Stripe};
 ghost use Rattle.rebuilder.specs.Reports.{report};
 
-use card::{CardCheck, CardFault, Edition};
-use restorer::StripeTest;
+use card::{CardFault, Code, Edition};
+use restorer::StripeFault;
 
-// The rebuilder's answer: how many disks were lost, the card's fault, a strip length that is none, a set
-// with a disk that the code lacks, a stripe of another length, a fatal set, or survivors of no content.
-#[derive(Clone, Copy)]
-pub enum Rebuilt {
-    Disks(u32),
+// Why nothing was rebuilt: the card's fault, that of a strip length, a lost set or a stripe, a fatal set, or survivors
+// of no content.
+#[derive(Clone, Copy, Debug, PartialEq, Eq)]
+pub enum RebuildError {
     Card(CardFault),
-    StripLength,
-    OutsideSet,
-    StripeLength,
+    Stripe(StripeFault),
     Fatal,
     Inconsistent,
 }
 
-// The rebuilder past the tests of its arguments: the set is fatal where some disk stays undetermined; else all
-// lost strips are restored where some content agrees with the survivors.
-fn restore(columns: &[u8], k: usize, m: usize, l: usize, lost: u32, stripe: &mut [u8]) -> Rebuilt
-    requires columns { Columns k m columns.now }
-    requires le_l { (1 ≤ l) × (l ≤ 65536) × (lost < 2 ^ (k + m)) × (length stripe.old ≡ (k + m) * l) }
-    ensures result_value { report result ≡ disks_report (code_in k m columns.now) l lost stripe.old }
-    ensures stripe_after { stripe.new ≡ unless_refused (report result) (restored (code_in k m columns.now) l lost stripe.old (agreeing (code_in k m columns.now) l lost stripe.old)) stripe.old }
-{
-    if repairs::undetermined(bases::rows(columns, k, m), lost) != 0 {
-        return Rebuilt::Fatal;
+impl From<CardFault> for RebuildError {
+    ghost from_gives = { λ fault error. error ≡ Card fault };
+
+    fn from(fault: CardFault) -> RebuildError {
+        RebuildError::Card(fault)
     }
-    if !restorer::restore(columns, k, m, l, lost, lost, stripe) {
-        return Rebuilt::Inconsistent;
-    }
-    let count = gf2::size(lost);
-    Rebuilt::Disks(count)
 }
 
-// The rebuilder, on the columns of an accepted card.
-fn rebuild_columns(
-    columns: &[u8],
-    k: usize,
-    m: usize,
+impl From<StripeFault> for RebuildError {
+    ghost from_gives = { λ fault error. error ≡ Stripe fault };
+
+    fn from(fault: StripeFault) -> RebuildError {
+        RebuildError::Stripe(fault)
+    }
+}
+
+// The rebuilder past the tests of its arguments: the set is fatal where some disk stays undetermined; else all
+// lost strips are restored where some content agrees with the survivors.
+fn restore(code: &Code<'_>, l: usize, lost: u32, stripe: &mut [u8]) -> Result<u32, RebuildError>
+    requires set { lost < 2 ^ disks code.now }
+    requires sizes { (1 ≤ l) × (l ≤ 65536) × (length stripe.old ≡ disks code.now * l) }
+    ensures answer { report result ≡ disks_report code.now l lost stripe.old }
+    ensures stripe { stripe.new ≡ unless_refused (report result) (restored code.now l lost stripe.old (agreeing code.now l lost stripe.old)) stripe.old }
+{
+    if repairs::undetermined(&bases::rows(code), lost) != 0 {
+        return Err(RebuildError::Fatal);
+    }
+    if !restorer::restore(code, l, lost, lost, stripe) {
+        return Err(RebuildError::Inconsistent);
+    }
+    let count = gf2::size(lost);
+    Ok(count)
+}
+
+// The rebuilder, for the code of an accepted card.
+fn rebuild_code(
+    code: &Code<'_>,
     l: usize,
     lost: u32,
     stripe: &mut [u8],
-) -> Rebuilt
-    requires { Columns k m columns.now }
-    ensures result_value { report result ≡ rebuild_tests (code_in k m columns.now) l lost stripe.old }
-    ensures stripe_after { stripe.new ≡ unless_refused (report result) (restored (code_in k m columns.now) l lost stripe.old (agreeing (code_in k m columns.now) l lost stripe.old)) stripe.old }
+) -> Result<u32, RebuildError>
+    ensures answer { report result ≡ rebuild_tests code.now l lost stripe.old }
+    ensures stripe { stripe.new ≡ unless_refused (report result) (restored code.now l lost stripe.old (agreeing code.now l lost stripe.old)) stripe.old }
 {
-    match restorer::tested(k, m, l, lost, stripe.len()) {
-        StripeTest::StripLength => Rebuilt::StripLength,
-        StripeTest::OutsideSet => Rebuilt::OutsideSet,
-        StripeTest::StripeLength => Rebuilt::StripeLength,
-        StripeTest::Passed => restore(columns, k, m, l, lost, stripe),
-    }
+    restorer::tested(code.n(), l, lost, stripe.len())?;
+    restore(code, l, lost, stripe)
 }
 
-// The rebuilder: the lost strips become those of the only content that agrees with the survivors.
-pub fn rebuild(edition: Edition, card: &[u8], l: usize, lost: u32, stripe: &mut [u8]) -> Rebuilt
+// The rebuilder: the lost strips become those of the only content that agrees with the survivors. The answer is how
+// many disks were lost.
+pub fn rebuild(
+    edition: Edition,
+    card: &[u8],
+    l: usize,
+    lost: u32,
+    stripe: &mut [u8],
+) -> Result<u32, RebuildError>
     ensures result_value { report result ≡ rebuild_report (card_of edition card.now) l lost stripe.old }
     ensures stripe_after { stripe.new ≡ rebuild_stripe (card_of edition card.now) l lost stripe.old }
 {
-    match card::check(edition, card) {
-        CardCheck::Bad(fault) => Rebuilt::Card(fault),
-        CardCheck::Good { k, m } => rebuild_columns(
-            card::columns(edition, card),
-            k,
-            m,
-            l,
-            lost,
-            stripe,
-        ),
-    }
+    let code = card::check(edition, card)?;
+    rebuild_code(&code, l, lost, stripe)
 }

@@ -1,29 +1,34 @@
 -- What the body call answers, and which part of the file it lends, by what the reader's check found.
 -- Assumes nothing.
 use mathlib.Core.Path.{◌≡◌, refl, sym, ap, ap₂, ◌∙◌}
-use mathlib.Core.Bool.{Bool, true, false}
-use mathlib.Core.List.{List, []}
+use mathlib.Core.Bool.{true, false}
+use mathlib.Core.List.{List, [], ◌∷◌}
 use Prim.Native.Nat.{ℕ, suc, ◌+◌, ◌-◌, ◌≤◌, ◌<◌}
 use native.Mathlib.Omega.{arith}
 use lib.Dec.{eqb}
 use lib.ListN.{length, take, drop}
-use Rattle.std.specs.Prelude.{if◌then◌else◌}
 use Rattle.gf2.specs.Sets.{has}
 use Rattle.gf2.proofs.Tests.{true-T, false-T}
 use Rattle.flat.specs.Cards.{disks, card_length}
-use Rattle.flat.specs.Faults.{accepted, refused, unless_refused}
-use Rattle.flat.proofs.Reports.{unless_accepted, unless_refused_lem}
+use Rattle.flat.specs.Faults.{Report, accepted, refused}
+use Rattle.flat.proofs.Reports.{unless_accepted, unless_other}
 use Rattle.record_format.specs.Records.{strips_at, body_at, offset_in, body_length_in, body_in, lost_in}
 use Rattle.record_format.specs.Faults.{record_report, body_tests, body_report, body_part}
 use Rattle.record_format.proofs.Received.{body-there}
 use Rattle.record_format.proofs.Bodies.{body_beyond, body-lost, body-accepted}
 use Rattle.record_reader.specs.declared.RecordFault.{RecordFault}
 use Rattle.record_reader.specs.Reports.{record_fault_report}
-use Rattle.record_reader.proofs.Callers.{GoodRecord, unless_bad, bad_record}
+use Rattle.record_reader.proofs.Callers.{GoodRecord, good, bad_record, bad_refuses}
+use Rattle.record.specs.declared.bodies.BodyError.{BodyError}
+use Rattle.record.specs.declared.bodies.BodyError.TheVariants as error
+use Rattle.record.specs.Reports.{error_report}
 
 -- ---- a good record
 
-module _ (file : List ℕ) (k m L S : ℕ) (g : GoodRecord file k m L S) where
+module _ (file : List ℕ) (k m L S : ℕ) (found : accepted (k ∷ m ∷ L ∷ S ∷ []) ≡ record_report file) where
+  pub g : GoodRecord file k m L S
+  g = good file k m L S found
+
   pub no_disk : (d : ℕ) → k + m ≤ d → refused 9 [] ≡ body_report file d
   no_disk d l = sym (body_beyond file k m L S g.found d l)
 
@@ -31,46 +36,46 @@ module _ (file : List ℕ) (k m L S : ℕ) (g : GoodRecord file k m L S) where
   lost-disk d l h = sym (body-lost file k m L S g.found d l (true-T h))
 
   -- where it stands
-  pub there : (d start at : ℕ) → d < k + m → has S d ≡ false → start ≡ strips_at (k + m) (card_length m) → at ≡ body_at start L S d
-      → (accepted [] ≡ body_report file d)
-      × (((at ≡ unless_refused (body_report file d) (offset_in file (suc d)) 0) × (L ≡ unless_refused (body_report file d) (body_length_in file (suc d)) 0))
-      × (at + L ≤ length file))
-  there d start at l h s e =
-      let t = body-there file k m L S g.known d l (false-T h) in
-      let is : at ≡ body_at (strips_at (k + m) (card_length m)) L S d = e ∙ ap (λ (x : ℕ). body_at x L S d) s in
-      let r = body-accepted file k m L S g.found d l (false-T h) in (
-        sym r,
-        (
-          (is ∙ sym (unless_accepted (body_report file d) [] _ 0 r ∙ t.0), sym (unless_accepted (body_report file d) [] _ 0 r ∙ t.1)),
-          omega (arith, t.2),
-        ),
-      )
+  module _ (d start at : ℕ) (l : d < k + m) (h : has S d ≡ false) (s : start ≡ strips_at (k + m) (card_length m)) (e : at ≡ body_at start L S d) where
+    pub there : accepted [] ≡ body_report file d
+    there = sym (body-accepted file k m L S g.found d l (false-T h))
+
+    pub there-at : (at ≡ offset_in file (suc d)) × (L ≡ body_length_in file (suc d))
+    there-at =
+        let t = body-there file k m L S g.known d l (false-T h) in
+        (e ∙ ap (λ (x : ℕ). body_at x L S d) s ∙ sym t.0, sym t.1)
+
+    pub there-within : at + L ≤ length file
+    there-within =
+        let t = body-there file k m L S g.known d l (false-T h) in
+        let is : at ≡ body_at (strips_at (k + m) (card_length m)) L S d = e ∙ ap (λ (x : ℕ). body_at x L S d) s in
+        omega (arith, t.2)
 
 -- ---- a refused call, and the part that is lent
 
--- a refused call names no place
-pub nowhere : (file : List ℕ) (d n : ℕ) (vs : List ℕ) → refused (suc n) vs ≡ body_report file d
-    → (0 ≡ unless_refused (body_report file d) (offset_in file (suc d)) 0) × (0 ≡ unless_refused (body_report file d) (body_length_in file (suc d)) 0)
-nowhere file d n vs e =
-    (sym (unless_refused_lem (body_report file d) n vs _ 0 (sym e)), sym (unless_refused_lem (body_report file d) n vs _ 0 (sym e)))
-
-pub bad_place : (file : List ℕ) (d : ℕ) (f : RecordFault) → record_fault_report f ≡ record_report file
-    → (record_fault_report f ≡ body_report file d)
-    × ((0 ≡ unless_refused (body_report file d) (offset_in file (suc d)) 0) × (0 ≡ unless_refused (body_report file d) (body_length_in file (suc d)) 0))
+pub bad_place : (file : List ℕ) (d : ℕ) (f : RecordFault) → record_fault_report f ≡ record_report file → record_fault_report f ≡ body_report file d
 unfolding body_report
-bad_place file d f e =
-    let r : record_fault_report f ≡ body_report file d = sym (bad_record file f (λ C. body_tests (disks C) (lost_in (disks C) file) d) e) in
-    (r, (sym (unless_bad f (body_report file d) _ 0 r), sym (unless_bad f (body_report file d) _ 0 r)))
+bad_place file d f e = sym (bad_record file f (λ C. body_tests (disks C) (lost_in (disks C) file) d) e)
 
--- the part that the code lends is the one that the report names
-pub body_lent : (file : List ℕ) (d at len : ℕ) → at ≡ unless_refused (body_report file d) (offset_in file (suc d)) 0
-    → len ≡ unless_refused (body_report file d) (body_length_in file (suc d)) 0 → take (at + len - at) (drop at file) ≡ body_part file d
-unfolding body_part unless_refused body_in
-body_lent file d at len p q =
+-- the part that the code lends is the body that the entry names
+pub body_lent : (file : List ℕ) (d at len : ℕ) → accepted [] ≡ body_report file d → (at ≡ offset_in file (suc d)) × (len ≡ body_length_in file (suc d))
+    → take (at + len - at) (drop at file) ≡ body_part file d
+unfolding body_part body_in
+body_lent file d at len r p =
     let e : at + len - at ≡ len = omega arith in
-    ap (λ (x : ℕ). take x (drop at file)) e ∙ ap₂ (λ (x y : ℕ). take x (drop y file)) q p ∙ go (eqb (body_report file d).number 0)
-  where
-    go : (b : Bool) → take (if b then body_length_in file (suc d) else 0) (drop (if b then offset_in file (suc d) else 0) file)
-        ≡ (if b then take (body_length_in file (suc d)) (drop (offset_in file (suc d)) file) else [])
-    go true = refl
-    go false = refl
+    ap (λ (x : ℕ). take x (drop at file)) e ∙ ap₂ (λ (x y : ℕ). take x (drop y file)) p.1 p.0
+    ∙ sym (unless_accepted (body_report file d) [] (take (body_length_in file (suc d)) (drop (offset_in file (suc d)) file)) [] (sym r))
+
+-- an error's number is not 0
+refuses : (e : BodyError) → eqb (error_report e).number 0 ≡ false
+refuses (error.Record f) = bad_refuses f
+refuses error.NoDisk = refl
+refuses error.Lost = refl
+
+-- no part is lent where the call beside refuses
+pub none_lent : (file : List ℕ) (d : ℕ) (e : BodyError) → error_report e ≡ body_report file d → [] ≡ body_part file d
+unfolding body_part
+none_lent file d e q = unless_other (body_report file d) (body_in file (suc d)) [] (ap (λ (r : Report). eqb r.number 0) (sym q) ∙ refuses e)
+
+-- ---- what the proof of `body_place` cites
+pub ruleset places = (bad_place, there, there-within)

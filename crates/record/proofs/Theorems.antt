@@ -2,22 +2,23 @@
 -- Assumes nothing.
 use mathlib.Core.Path.{◌≡◌, refl, sym, ap, ◌∙◌}
 use lib.Dec.{eqb}
-use Rattle.std.specs.Prelude.{if◌then◌else◌}
+use Rattle.std.specs.Prelude.{Result, Ok, Err, if◌then◌else◌}
 use Rattle.flat.specs.Faults.{Report}
 use Rattle.record_reader.proofs.Theorems.{sent, sent_back}
-use Rattle.record.specs.declared.bodies.BodyCheck.{BodyCheck}
-use Rattle.record.specs.declared.bodies.BodyCheck.TheVariants as body
+use Rattle.record.specs.declared.bodies.BodyError.{BodyError}
+use Rattle.record.specs.declared.bodies.BodyError.TheVariants as error
 use Rattle.record.specs.Reports.{report}
 use Rattle.record.specs.Theorems.{ThereInjective}
 
-abbrev there_from : Report → BodyCheck
-there_from r = sent r body.Record (if eqb r.number 9 then body.NoDisk else if eqb r.number 16 then body.Lost else body.There)
+abbrev answer_of : Report → Result (Unit {0}) BodyError
+answer_of r =
+    sent r (λ f. Err (error.Record f)) (if eqb r.number 9 then Err error.NoDisk else if eqb r.number 16 then Err error.Lost else Ok tt)
 
-there_back : (a : BodyCheck) → there_from (report a) ≡ a
-there_back body.There = refl
-there_back (body.Record f) = sent_back f body.Record _
-there_back body.NoDisk = refl
-there_back body.Lost = refl
+answer_back : (a : Result (Unit {0}) BodyError) → answer_of (report a) ≡ a
+answer_back (Ok tt) = refl
+answer_back (Err (error.Record f)) = sent_back f (λ g. Err (error.Record g)) _
+answer_back (Err error.NoDisk) = refl
+answer_back (Err error.Lost) = refl
 
 pub there_injective : ThereInjective
-there_injective a b e = sym (there_back a) ∙ ap there_from e ∙ there_back b
+there_injective a b e = sym (answer_back a) ∙ ap answer_of e ∙ answer_back b

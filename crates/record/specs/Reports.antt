@@ -1,13 +1,18 @@
 -- Document 01's number and values for each case of the answer of the call beside the body call.
 -- Assumes nothing.
-use Rattle.std.specs.Prelude.{[]}
+use Rattle.std.specs.Prelude.{[], Result, Ok, Err}
 use Rattle.flat.specs.Faults.{Report, accepted, refused}
 use Rattle.record_reader.specs.Reports.{record_fault_report}
-use Rattle.record.specs.declared.bodies.BodyCheck.{BodyCheck}
-use Rattle.record.specs.declared.bodies.BodyCheck.TheVariants as body
+use Rattle.record.specs.declared.bodies.BodyError.{BodyError}
+use Rattle.record.specs.declared.bodies.BodyError.TheVariants as error
 
-abbrev pub report : BodyCheck → Report
-report body.There = accepted []
-report (body.Record f) = record_fault_report f
-report body.NoDisk = refused 9 []
-report body.Lost = refused 16 []
+-- why the strip is not there
+abbrev pub error_report : BodyError → Report
+error_report (error.Record f) = record_fault_report f
+error_report error.NoDisk = refused 9 []
+error_report error.Lost = refused 16 []
+
+-- whether it is there, whatever is told of it
+abbrev pub report : {A : Type 0} → Result A BodyError → Report
+report (Ok _) = accepted []
+report (Err e) = error_report e

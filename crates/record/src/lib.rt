@@ -8,6 +8,6 @@
 
 mod bodies;
 
-pub use bodies::{BodyCheck, BodyPlace, body, body_check, body_place};
-pub use record_reader::{RecordCheck, RecordFault, RecordRead, check, read};
-pub use record_writer::{RecordWritten, write};
+pub use bodies::{BodyError, BodyPlace, body, body_check, body_place};
+pub use record_reader::{RecordFault, RecordInfo, RecordRead, check, read};
+pub use record_writer::{RecordWriteError, write};

@@ -1,17 +1,17 @@
 -- What a caller of the reader's check knows from its answer: of a good record its counts and its card, and of a bad one that its fault
 -- is what the caller's call answers.
 -- Assumes nothing.
-use mathlib.Core.Path.{◌≡◌, refl, sym, ap, ap₂, ◌∙◌}
+use mathlib.Core.Path.{◌≡◌, refl, sym, ap, ◌∙◌}
 use mathlib.Core.Bool.{false}
 use mathlib.Core.List.{List, [], ◌∷◌}
-use Prim.Native.Nat.{ℕ, ◌+◌, ◌-◌, ◌*◌, ◌≤◌}
+use Prim.Native.Nat.{ℕ, ◌+◌, ◌≤◌}
 use native.Mathlib.Omega.{arith}
 use lib.Dec.{eqb}
-use lib.ListN.{length, take, drop, replicate}
+use lib.ListN.{length}
 use Rattle.flat.specs.Lists.{padded}
 use Rattle.flat.specs.Cards.{Code, code_of, card_length, edition_one}
-use Rattle.record_format.specs.Records.{entry_count, bodies_at, strips_at, body_at, offset_in, body_length_in, body_in}
-use Rattle.flat.specs.Faults.{Report, accepted, unless_refused, card_report, card_columns}
+use Rattle.record_format.specs.Records.{strips_at, body_at, body_in}
+use Rattle.flat.specs.Faults.{Report, accepted, unless_refused}
 use Rattle.record_format.specs.Faults.{with_record, record_report, record_columns}
 use Rattle.flat.proofs.Reports.{unless_accepted, unless_other, as_refused}
 use Rattle.flat.proofs.Lengths.{length_in_lem}
@@ -24,7 +24,7 @@ use Rattle.record_reader.specs.Reports.{record_fault_report}
 -- ---- a bad record
 
 -- a fault's number is not 0
-bad_refuses : (f : RecordFault) → eqb (record_fault_report f).number 0 ≡ false
+pub bad_refuses : (f : RecordFault) → eqb (record_fault_report f).number 0 ≡ false
 bad_refuses fault.Mark = refl
 bad_refuses fault.StripLength = refl
 bad_refuses fault.Contents = refl
@@ -40,11 +40,6 @@ pub bad_record : (file : List ℕ) (f : RecordFault) (answer : Code → Report) 
     → with_record file answer ≡ record_fault_report f
 bad_record file f answer e =
     let r = as_refused (record_fault_report f) (bad_refuses f) in with_refused_record file _ _ answer (sym e ∙ r) ∙ sym r
-
--- it has no columns
-pub columns-none : (file : List ℕ) (f : RecordFault) → record_fault_report f ≡ record_report file → replicate 16 0 ≡ record_columns file
-unfolding record_columns padded
-columns-none file f e = sym (ap (padded 16) (unless_bad f (record_report file) (code_of (edition_one (body_in file 0))).columns [] e))
 
 -- ---- a good record
 
@@ -64,20 +59,10 @@ good file k m L S e =
     let r = received file k m L S (sym e) in
     record { k_in = r.k_in; m_in = r.m_in; short = (length_in_lem L r.length_ok_lem).1; front = omega (arith, r.size); found = sym e; known = r }
 
-module _ (file : List ℕ) (k m L S : ℕ) (g : GoodRecord file k m L S) where
-  -- the card, as the code lends it
-  pub card_lent : (start : ℕ) → start ≡ strips_at (k + m) (card_length m)
-      → take (start - (20 + 10 * (k + m))) (drop (20 + 10 * (k + m)) file) ≡ body_in file 0
-  unfolding body_in strips_at bodies_at entry_count card_length
-  card_lent start e =
-      let r = g.known in
-      let at : 20 + 10 * (k + m) ≡ offset_in file 0 = omega (arith, r.card_at) in
-      let len : start - (20 + 10 * (k + m)) ≡ body_length_in file 0 = omega (arith, r.card_length_lem, e) in
-      ap₂ (λ (x y : ℕ). take x (drop y file)) len at
-
-  pub columns_good : (card columns : List ℕ) → card ≡ body_in file 0 → columns ≡ card_columns (edition_one card) → columns ≡ record_columns file
-  unfolding card_columns record_columns
-  columns_good card columns is e =
-      let new = (code_of (edition_one (body_in file 0))).columns in
-      e ∙ ap (λ (bs : List ℕ). card_columns (edition_one bs)) is
-      ∙ ap (padded 16) (unless_accepted (card_report (edition_one (body_in file 0))) _ new [] g.known.card_ok ∙ sym (unless_accepted (record_report file) _ new [] g.found))
+-- its columns are those of its card's code
+pub columns_good : (file : List ℕ) (ws : List ℕ) (C : Code) → accepted ws ≡ record_report file → C ≡ code_of (edition_one (body_in file 0))
+    → padded 16 C.columns ≡ record_columns file
+unfolding record_columns
+columns_good file ws C e is =
+    ap (λ (D : Code). padded 16 D.columns) is
+    ∙ ap (padded 16) (sym (unless_accepted (record_report file) ws (code_of (edition_one (body_in file 0))).columns [] (sym e)))

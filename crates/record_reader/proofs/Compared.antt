@@ -1,26 +1,35 @@
--- What a comparison keeps that stops at the first test that fails, where each number below a bound has to pass; and the test of an entry.
+-- A test of each number below a bound, as `all` makes it, and the test of an entry.
 -- Assumes nothing.
-use mathlib.Core.Path.{◌≡◌, sym, ◌∙◌}
+use mathlib.Core.Path.{◌≡◌, sym, ◌∙◌, subst}
 use mathlib.Core.Bool.{Bool, true, false}
 use mathlib.Core.List.{List}
 use Prim.Native.Nat.{ℕ, suc, ◌+◌, ◌*◌, ◌<◌}
-use native.Mathlib.Numerals.{add-one}
 use native.Mathlib.Omega.{arith}
-use lib.ListN.{length, take, drop}
-use Rattle.gf2.proofs.Tests.{T_false, false-T}
+use lib.ListN.{length, get_or, take, drop}
+use Rattle.std.specs.Bool.{MatchBool}
+use Rattle.std.specs.List.{AllWithin, HoldsAt, range_with_len}
+use Rattle.std.proofs.lemmas.List.FromFn.{length-range_with_len, get_or-range_with_len}
+use Rattle.gf2.proofs.Tests.{T_true, true-T, T_false, false-T}
 use Rattle.flat.specs.Lists.{every, same}
 use Rattle.record_format.specs.Records.{entry_in, strip_entry}
-use Rattle.flat.proofs.Quantifiers.{every_out}
+use Rattle.flat.proofs.Quantifiers.{every_in, every_out}
 
 -- ---- tests
 
-pub every_more : (i : ℕ) (p : ℕ → Bool) → every i p ≡ true → p i ≡ true → every (i + 1) p ≡ true
-unfolding every
-every_more i p e h = rw (add-one, e, h)
+module _ (n : ℕ) (p : ℕ → Bool) where
+  at-place : (P : Bool → Type 0) (k : ℕ) → k < n → P (p (get_or (range_with_len 0 n) k 0)) → P (p k)
+  at-place P k l h = let e : get_or (range_with_len 0 n) k 0 ≡ k = omega (arith, get_or-range_with_len 0 n k 0 l) in subst (λ (x : ℕ). P (p x)) e h
 
--- one test that fails
-pub every_other : (n i : ℕ) (p : ℕ → Bool) → i < n → p i ≡ false → false ≡ every n p
-every_other n i p l e = sym (T_false (λ t. false-T e (every_out n p t i l)))
+  -- what `all` tells of the numbers below n
+  pub every-all : (r : Bool)
+      → MatchBool r (AllWithin (λ i. p i ≡ true) (range_with_len 0 n) 0 (length (range_with_len 0 n)))
+      ((k : ℕ) × (k < length (range_with_len 0 n)) × HoldsAt (λ i. p i ≡ false) (range_with_len 0 n) k)
+      → r ≡ every n p
+  every-all true h =
+      sym (T_true (every_in n p (λ k l. true-T (at-place (λ b. b ≡ true) k l (h k 0 (omega arith) (omega (arith, length-range_with_len 0 n)))))))
+  every-all false h =
+      let l : h.0 < n = omega (arith, h.1, length-range_with_len 0 n) in
+      sym (T_false (λ t. false-T (at-place (λ b. b ≡ false) h.0 l (h.2 0)) (every_out n p t h.0 l)))
 
 -- ---- entries
 

@@ -15,9 +15,9 @@ use Rattle.record_format.proofs.Tests.{mark_out, entries_out, card-entry_out}
 
 -- ---- ten bytes and the mark
 
-pub mark-short : (file : List ℕ) → length file < 10 → false ≡ mark_ok file
+pub mark-short : (file : List ℕ) (b : Bool) → b ≡ false → length file < 10 → b ≡ mark_ok file
 unfolding mark_ok
-mark-short file l = simp (lt-leb _ _ l)
+mark-short file b e l = e ∙ simp (lt-leb _ _ l)
 
 pub mark-long : (file : List ℕ) (b : Bool) → 10 ≤ length file → b ≡ same (take 4 (drop 0 file)) mark → b ≡ mark_ok file
 unfolding mark_ok
@@ -55,6 +55,10 @@ module _ (file : List ℕ) (e : ℕ) (is : e ≡ field 8 2 file) where
 pub entries_in : (file : List ℕ) → entries_ok file ≡ true → (3 ≤ field 8 2 file) × (field 8 2 file ≤ 33) × (10 + 10 * field 8 2 file ≤ length file)
 unfolding entry_count_in bodies_at
 entries_in file t = entries_out file t
+
+-- the card's entry and the first strip's stand in the file
+pub long : (file : List ℕ) → entries_ok file ≡ true → 40 ≤ length file
+long file t = omega (arith, entries_in file t)
 
 -- ---- a field of an entry is a field of the file
 
@@ -110,3 +114,17 @@ unfolding body_in
 card_part file at len off long =
     let e : at + len - at ≡ len = omega arith in
     rw (e, card_offset file, card_size file, off, long)
+
+-- ---- what the proofs of the code's tests cite
+
+-- ten bytes and the mark
+pub ruleset mark_tests = (mark-short, mark-long)
+
+-- the number of entries
+pub ruleset entry_count_tests = (entries-few, entries-many, entries_fit)
+
+-- the card's entry
+pub ruleset card_entry_tests = (long, card_kind, card_disk, card-place, card_end)
+
+-- the card, as a part of the file
+pub ruleset card_part_laws = (long, card_in, card_part)

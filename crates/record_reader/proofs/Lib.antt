@@ -1,7 +1,7 @@
 pub mod Compared
 pub mod LostSet
 pub mod Heads
-pub mod Strips
+pub mod StripTests
 pub mod Answers
 pub mod Callers
 pub mod Theorems

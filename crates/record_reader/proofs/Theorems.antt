@@ -3,13 +3,12 @@
 use mathlib.Core.Path.{◌≡◌, refl, sym, ap, ◌∙◌}
 use lib.Dec.{eqb}
 use lib.ListN.{get_or}
-use Rattle.std.specs.Prelude.{if◌then◌else◌}
+use Rattle.std.specs.Prelude.{Result, Ok, Err, if◌then◌else◌}
 use Rattle.flat.specs.Faults.{Report}
 use Rattle.card.proofs.Theorems.{carried, carried-back}
 use Rattle.record_reader.specs.declared.RecordFault.{RecordFault}
 use Rattle.record_reader.specs.declared.RecordFault.TheVariants as fault
-use Rattle.record_reader.specs.declared.RecordCheck.{RecordCheck}
-use Rattle.record_reader.specs.declared.RecordCheck.TheVariants as check
+use Rattle.record_reader.specs.declared.RecordInfo.{RecordInfo}
 use Rattle.record_reader.specs.Reports.{record_fault_report, report}
 use Rattle.record_reader.specs.Theorems.{FaultInjective, CheckInjective}
 
@@ -31,13 +30,14 @@ module _ {A : Type 0} where
   sent_back (fault.Card f) answer other = carried-back f (λ g. answer (fault.Card g)) _
   sent_back fault.FileLength answer other = refl
 
-abbrev check_from : Report → RecordCheck
+abbrev check_from : Report → Result RecordInfo RecordFault
 check_from r =
-    sent r check.Bad (check.Good (get_or r.values 0 0) (get_or r.values 1 0) (get_or r.values 2 0) (get_or r.values 3 0))
+    sent r Err
+    (Ok (record { k = get_or r.values 0 0; m = get_or r.values 1 0; l = get_or r.values 2 0; lost = get_or r.values 3 0 }))
 
-check-back : (a : RecordCheck) → check_from (report a) ≡ a
-check-back (check.Good k m l lost) = refl
-check-back (check.Bad f) = sent_back f check.Bad _
+check-back : (a : Result RecordInfo RecordFault) → check_from (report a) ≡ a
+check-back (Ok found) = refl
+check-back (Err f) = sent_back f Err _
 
 pub fault_injective : FaultInjective
 fault_injective a b e =

@@ -8,6 +8,7 @@ use native.Mathlib.Omega.{arith}
 use lib.ListN.{take, drop}
 use Rattle.std.specs.Prelude.{if◌then◌else◌}
 use Rattle.gf2.specs.Sets.{has}
+use Rattle.flat.proofs.Lists.{put-none}
 use Rattle.record_format.specs.Records.{strip_body}
 
 -- the strip of disk i
@@ -22,3 +23,6 @@ body-there l lost i stripe e = ap (λ (b : Bool). if b then [] else take l (drop
 pub body-lost : (l lost i : ℕ) (stripe : List ℕ) → has lost i ≡ true → strip_body l lost stripe i ≡ []
 unfolding strip_body
 body-lost l lost i stripe e = ap (λ (b : Bool). if b then [] else take l (drop (i * l) stripe)) e
+
+-- ---- what the proof of a body cites
+pub ruleset body_laws = (part_strip, body-there, body-lost, put-none)

@@ -8,6 +8,8 @@ use native.Mathlib.Omega.{arith}
 use lib.ListN.{length}
 use Rattle.flat.specs.Lists.{range, each}
 use Rattle.record_format.proofs.Standing.{each_last}
+use Rattle.record_format.proofs.Entries.{length-strip-entry}
+use Rattle.record_format.proofs.Places.{length-entries, strip-room, body_grows}
 use Rattle.flat.specs.Lists.{put}
 use Rattle.flat.proofs.Lists.{put-none, length-put, put_next}
 
@@ -33,3 +35,9 @@ laid_more f s₀ s next new at i b r q w e h =
 
 pub laid-all : (f : ℕ → List ℕ) (s₀ s : List ℕ) (at i n : ℕ) → Laid f s₀ at i s → i ≡ n → s ≡ put s₀ at (each f (range 0 n))
 laid-all f s₀ s at i n r e = r.so_far ∙ ap (λ (m : ℕ). put s₀ at (each f (range 0 m))) e
+
+-- ---- what the proofs of the loops cite
+
+pub ruleset entries_laws = (laid_none, laid_more, laid-all, length-entries, length-strip-entry)
+
+pub ruleset bodies_laws = (laid_none, laid-all, strip-room, body_grows)

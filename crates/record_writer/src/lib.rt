@@ -5,23 +5,20 @@
 // record_format/specs/Records.antt, and what is answered for which input in record_format/specs/Faults.antt.
 #![tactic(auto)]
 
-ghost use Rattle.std.specs.Prelude.{◌≡◌, [], ◌+◌, ◌*◌, ◌≤◌, eqb, length};
-ghost use Rattle.flat.specs.Cards.{code};
-ghost use Rattle.flat.specs.Faults.{unless_refused};
-ghost use Rattle.record_format.specs.Records.{record_bytes};
+ghost use Rattle.std.specs.Prelude.{◌≡◌, length};
 ghost use Rattle.record_format.specs.Faults.{record_write_tests, record_write_report, record_write_output};
-ghost use Rattle.flat.specs.Lists.{put};
 ghost use Rattle.record_writer.specs.Reports.{report};
+ghost use Rattle.record_writer.specs.declared.RecordWriteError.TheVariants.{Card as CardError};
 
-use card::{CardCheck, CardFault, Edition};
+use card::{CardFault, Code, Edition};
+use record_contents::Layout;
 
 mod parts;
 
-// The writer's answer: how long the record is, the card's fault, a strip length that is none, a lost set
-// with a disk that the code lacks, a stripe of another length, or an output that is too short.
-#[derive(Clone, Copy)]
-pub enum RecordWritten {
-    Length(usize),
+// Why no record was written: the card's fault, a strip length that is none, a lost set with a disk that the
+// code lacks, a stripe of another length, or an output that is too short.
+#[derive(Clone, Copy, Debug, PartialEq, Eq)]
+pub enum RecordWriteError {
     Card(CardFault),
     StripLength,
     OutsideSet,
@@ -29,70 +26,58 @@ pub enum RecordWritten {
     Output,
 }
 
-// Whether the record is to be written.
-fn accepts(answer: RecordWritten) -> bool
-    ensures { result ≡ eqb (report answer).number 0 }
-{
-    match answer {
-        RecordWritten::Length(_) => true,
-        RecordWritten::Card(_) => false,
-        RecordWritten::StripLength => false,
-        RecordWritten::OutsideSet => false,
-        RecordWritten::StripeLength => false,
-        RecordWritten::Output => false,
+impl From<CardFault> for RecordWriteError {
+    ghost from_gives = { λ fault error. error ≡ CardError fault };
+
+    fn from(fault: CardFault) -> RecordWriteError {
+        RecordWriteError::Card(fault)
     }
 }
 
-// What is answered for a good card of k and m, a stripe of size bytes and an output of room bytes.
-fn decide(k: usize, m: usize, l: usize, lost: u32, size: usize, room: usize) -> RecordWritten
-    requires { (1 ≤ k) × (k ≤ 16) × (m ≤ 16) }
-    ensures { report result ≡ record_write_tests (code k m []) l lost size room }
+// How long the record is, for a stripe of size bytes and an output of room bytes, or why there is none.
+#[tactic(auto, using(crate::proofs::WriterAnswers::length_tests))]
+fn record_length(
+    code: &Code<'_>,
+    l: usize,
+    lost: u32,
+    size: usize,
+    room: usize,
+) -> Result<usize, RecordWriteError>
+    ensures { report result ≡ record_write_tests code.now l lost size room }
 {
-    let n = k + m;
+    let n = code.n();
     if !card::length_ok(l) {
-        return RecordWritten::StripLength;
+        return Err(RecordWriteError::StripLength);
     }
     if !gf2::below(lost, n as u32) {
-        return RecordWritten::OutsideSet;
+        return Err(RecordWriteError::OutsideSet);
     }
     if size != n * l {
-        return RecordWritten::StripeLength;
+        return Err(RecordWriteError::StripeLength);
     }
-    let t = record_contents::body_at(record_contents::strips_at(n, m), l, lost, n);
-    if room < t {
-        return RecordWritten::Output;
+    let start = record_contents::strips_at(n, code.m());
+    let layout = Layout { start, l, lost };
+    let len = layout.body_at(n);
+    if room < len {
+        return Err(RecordWriteError::Output);
     }
-    RecordWritten::Length(t)
+    Ok(len)
 }
 
-// The writer, for a good card of k and m.
-fn write_good(
+// The writer: the record of the stripe at the output's front.
+#[tactic(auto, using(crate::proofs::WriterAnswers::reports))]
+pub fn write(
     card: &[u8],
-    k: usize,
-    m: usize,
     l: usize,
     lost: u32,
     stripe: &[u8],
     out: &mut [u8],
-) -> RecordWritten
-    requires { (1 ≤ k) × (k ≤ 16) × (m ≤ 16) × (length card.now ≡ 2 + 2 * m) }
-    ensures result_value { report result ≡ record_write_tests (code k m []) l lost (length stripe.now) (length out.old) }
-    ensures out_after { out.new ≡ unless_refused (report result) (put out.old 0 (record_bytes card.now (k + m) l lost stripe.now)) out.old }
-{
-    let answer = decide(k, m, l, lost, stripe.len(), out.len());
-    if accepts(answer) {
-        parts::put_record(card, k + m, l, lost, stripe, out);
-    }
-    answer
-}
-
-// The writer: the record of the stripe at the output's front.
-pub fn write(card: &[u8], l: usize, lost: u32, stripe: &[u8], out: &mut [u8]) -> RecordWritten
+) -> Result<usize, RecordWriteError>
     ensures result_value { report result ≡ record_write_report card.now l lost (length stripe.now) (length out.old) }
     ensures out_after { out.new ≡ record_write_output card.now l lost stripe.now out.old }
 {
-    match card::check(Edition::First, card) {
-        CardCheck::Bad(fault) => RecordWritten::Card(fault),
-        CardCheck::Good { k, m } => write_good(card, k, m, l, lost, stripe, out),
-    }
+    let code = card::check(Edition::First, card)?;
+    let len = record_length(&code, l, lost, stripe.len(), out.len())?;
+    parts::put_record(card, code.n(), l, lost, stripe, out);
+    Ok(len)
 }

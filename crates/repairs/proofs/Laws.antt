@@ -1,27 +1,18 @@
--- Laws for the proofs of the code: the search for a row that holds a disk.
+-- Laws for the proofs of the code: the first word that holds a disk.
 -- Assumes nothing.
-use mathlib.Core.Path.{◌≡◌, ap, ◌∙◌}
-use mathlib.Core.Bool.{true, false}
-use mathlib.Core.List.{List}
-use Prim.Native.Nat.{ℕ, ◌+◌, ◌≤◌, ◌<◌}
-use native.Mathlib.Numerals.{add-one}
-use lib.ListN.{length, get_or}
+use Rattle.std.proofs.Common.{◌≡◌, refl, Bool, true, false, List, [], ◌∷◌, ℕ, cond, Some}
+use Rattle.std.specs.List.{find}
+use Rattle.std.specs.Option.{unwrap_or}
+use Rattle.std.specs.Prelude.{if◌then◌else◌}
 use Rattle.gf2.specs.Sets.{has}
-use Rattle.gf2.proofs.Loops.{coming, coming-cons, coming-none}
 use Rattle.flat.specs.Repairs.{holder}
 
--- ---- the first of n rows that holds disk d, where those before row i do not
-
-module _ (d n : ℕ) (rows : List ℕ) where
-  pub holder-here : (i : ℕ) → i < n → n ≤ length rows → has (get_or rows i 0) d ≡ true → holder d (coming i n rows) ≡ get_or rows i 0
-  unfolding holder
-  holder-here i h l e = ap (holder d) (coming-cons i n rows h l) ∙ rw e
-
-  pub holder_later : (i : ℕ) → i < n → n ≤ length rows → has (get_or rows i 0) d ≡ false
-      → holder d (coming i n rows) ≡ holder d (coming (i + 1) n rows)
-  unfolding holder
-  holder_later i h l e = rw add-one (ap (holder d) (coming-cons i n rows h l) ∙ rw e)
-
-  pub holder_nowhere : n ≤ length rows → holder d (coming n n rows) ≡ 0
-  unfolding holder
-  holder_nowhere l = ap (holder d) (coming-none n rows l)
+pub found-holder : (d : ℕ) (words : List ℕ) → unwrap_or (find (λ w. has w d) words) 0 ≡ holder d words
+unfolding holder
+found-holder d [] = refl
+found-holder d (w ∷ words) = go (has w d) (found-holder d words)
+  where
+    go : (b : Bool) → unwrap_or (find (λ v. has v d) words) 0 ≡ holder d words
+        → unwrap_or (cond b (Some w) (find (λ v. has v d) words)) 0 ≡ (if b then w else holder d words)
+    go true e = refl
+    go false e = e

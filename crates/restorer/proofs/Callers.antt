@@ -13,7 +13,7 @@ use Rattle.std.specs.Prelude.{if◌then◌else◌}
 use Rattle.gf2.specs.Sets.{◌⊆◌}
 use Rattle.gf2.proofs.Tests.{true-T, false-T}
 use Rattle.flat.specs.Lists.{Bytes}
-use Rattle.flat.specs.Cards.{Code, code, disks}
+use Rattle.flat.specs.Cards.{Code, disks}
 use Rattle.flat.specs.Erasures.{determined_set}
 use Rattle.flat.specs.Rebuilding.{agreeing, restored}
 use Rattle.flat.specs.Repairs.{filled, consistent, equation_among}
@@ -21,19 +21,12 @@ use Rattle.flat.specs.Faults.{Report, accepted, stripe_tests}
 use Rattle.flat.proofs.Tested.{Passed, tests_passed}
 use Rattle.flat.proofs.Agreement.{agreeing_cases}
 use Rattle.flat.proofs.Theorems.{consistent-agrees, restored-filled}
-use Rattle.restorer.specs.declared.StripeTest.{StripeTest}
-use Rattle.restorer.specs.Reports.{report_before}
 
 -- ---- the tests
 
--- the report where the answer is known
-pub told-by : (x t : StripeTest) (next r : Report) → t ≡ x → report_before t next ≡ r → report_before x next ≡ r
-told-by x t next r e q = ap (λ (y : StripeTest). report_before y next) (sym e) ∙ q
-
 -- where they let everything pass, they passed
-pub all-passed : (k m L S n : ℕ) (columns : List ℕ) → ((cs : List ℕ) (next : Report) → next ≡ stripe_tests (code k m cs) L S n next)
-    → Passed (code k m columns) L S n
-all-passed k m L S n columns h = tests_passed (code k m columns) L S n (accepted []) (ap (λ (r : Report). r.number) (sym (h columns (accepted []))))
+pub all_passed : (C : Code) (L S n : ℕ) → ((next : Report) → next ≡ stripe_tests C L S n next) → Passed C L S n
+all_passed C L S n h = tests_passed C L S n (accepted []) (ap (λ (r : Report). r.number) (sym (h (accepted []))))
 
 -- ---- whether some content agrees, and the strips
 

@@ -1,13 +1,10 @@
--- Laws for the proofs of the code: a number rotated by shifts in 64 bits, the first rows of those that are rotated, and the disk in a slot without a
--- division.
+-- Laws for the proofs of the code: a number rotated by shifts in 64 bits, and the disk in a slot without a division.
 -- Assumes nothing.
-use mathlib.Core.Path.{◌≡◌, refl, sym, ap, ap₂, ◌∙◌, subst}
-use mathlib.Core.List.{List, [], ◌∷◌, map}
-use Prim.Native.Nat.{ℕ, zero, suc, ◌+◌, ◌-◌, ◌*◌, ◌/◌, ◌%◌, ◌^◌, ◌≤◌, ◌<◌}
+use mathlib.Core.Path.{◌≡◌, sym, ap, ap₂, ◌∙◌, subst}
+use Prim.Native.Nat.{ℕ, ◌+◌, ◌-◌, ◌*◌, ◌/◌, ◌%◌, ◌^◌, ◌≤◌, ◌<◌}
 use native.Mathlib.Nat.{mod-lt, mod-eq_of_lt, add-mod_right, div-lt_iff_lt-mul, lt_of_lt_of_le}
 use native.Mathlib.Omega.{arith}
 use lib.Bits.{bit_or, or_lt}
-use lib.ListN.{take}
 use lib.Pow.{pow_pos, pow_mono, pow-add, shl_exact, shl_lt}
 use Rattle.gf2.specs.Sets.{◌∪◌}
 use Rattle.gf2.proofs.Bits.{one_shifted_in}
@@ -38,11 +35,6 @@ module _ (S n a : ℕ) (small : S < 2 ^ 32) (few : n ≤ 32) (part : a ≤ n) wh
 
   pub rotated_fits : bit_or (S * 2 ^ (n - a) % 2 ^ 64 % (1 * 2 ^ n % 2 ^ 64)) (S * 2 ^ (n - a) % 2 ^ 64 / 2 ^ n) < 2 ^ 32
   rotated_fits = subst (λ (x : ℕ). x < 2 ^ 32) (sym rotated-is) rotated_lt
-
-pub take-map : (f : ℕ → ℕ) (n : ℕ) (xs : List ℕ) → take n (map f xs) ≡ map f (take n xs)
-take-map f zero xs = refl
-take-map f (suc n) [] = refl
-take-map f (suc n) (x ∷ xs) = ap (λ (r : List ℕ). f x ∷ r) (take-map f n xs)
 
 -- the disk in a slot, for a turn below n
 module _ (n t s : ℕ) (turn : t < n) (slot : s < n) where

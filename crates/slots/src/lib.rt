@@ -2,11 +2,11 @@
 // lost disks, and sets of disks, check words and equations among them, as the sets of their slots. No strip is read
 // here, and no card.
 //
-// A set of n disks is a number of n bits, and turning rotates it. The turn is r modulo n. What these are is said
-// in turning/specs: Turning and Slots.
+// A set of n disks is a number of n bits, and turning rotates it. What these are is said in turning/specs: Turning
+// and Slots.
 #![tactic(auto)]
 
-ghost use Rattle.std.specs.Prelude.{◌≡◌, ◌&&◌, map, ◌-◌, ◌%◌, ◌^◌, ◌<◌, ◌≤◌, ltb, take, if◌then◌else◌};
+ghost use Rattle.std.specs.Prelude.{◌≡◌, ◌&&◌, map, ◌-◌, ◌%◌, ◌^◌, ◌<◌, ◌≤◌, ltb, if◌then◌else◌};
 ghost use Rattle.gf2.specs.Sets.{has};
 ghost use Rattle.flat.specs.Lists.{tabulate};
 ghost use Rattle.flat.specs.Repairs.{equation_in};
@@ -14,14 +14,6 @@ ghost use Rattle.turning.specs.Turning.{disk_in, disks_of};
 ghost use Rattle.turning.specs.Slots.{rotated, slots_of};
 
 use gf2::Basis;
-
-// By how many slots stripe r of n disks is turned.
-pub fn turn(r: u32, n: usize) -> usize
-    requires { (1 ≤ n) × (n ≤ 32) }
-    ensures { (result ≡ r % n) × (result < n) }
-{
-    (r % n as u32) as usize
-}
 
 // A number of n bits, its first a bits moved to its end. The shift is by n - a, into 64 bits, so that neither n nor
 // 0 is a case of its own.
@@ -33,88 +25,88 @@ fn rotated(set: u32, n: usize, a: usize) -> u32
     (up % (1u64 << n) | up >> n) as u32
 }
 
-// The disks whose slots are in the set.
-pub fn disks_of(set: u32, n: usize, turn: usize) -> u32
-    requires { (n ≤ 32) × (turn < n) × (set < 2 ^ n) }
-    ensures { result ≡ disks_of n turn set }
-{
-    rotated(set, n, turn)
+// By how many slots, fewer than n, a stripe of n disks is turned: by its number modulo n.
+#[derive(Clone, Copy)]
+pub struct Turn {
+    pub n: usize,
+    pub by: usize,
+    pub ghost few: { n ≤ 32 },
+    pub ghost below: { by < n },
 }
 
-// The slots of the disks in the set.
-pub fn slots_of(set: u32, n: usize, turn: usize) -> u32
-    requires { (n ≤ 32) × (turn < n) × (set < 2 ^ n) }
-    ensures { result ≡ slots_of n turn set }
-{
-    rotated(set, n, n - turn)
-}
-
-// The same of all sixteen rows, as rotated numbers: what stands behind a basis' rows is none of n bits.
-fn rows_rotated(rows: [u32; 16], n: usize, a: usize) -> [u32; 16]
-    requires { (n ≤ 32) × (a ≤ n) }
-    ensures { result ≡ map (rotated n a) rows }
-{
-    let mut out = rows;
-    for i in 0..16 {
-        out[i] = rotated(rows[i], n, a);
+impl Turn {
+    // The turn of stripe r of n disks.
+    pub fn of(r: u32, n: usize) -> Self
+        requires { (1 ≤ n) × (n ≤ 32) }
+        ensures disks { result.n ≡ n }
+        ensures turn { (result.by ≡ r % n) × (result.by < n) }
+    {
+        Turn {
+            n,
+            by: (r % n as u32) as usize,
+        }
     }
-    out
-}
 
-// The rows of a basis as sets of slots.
-pub fn basis(words: Basis, n: usize, turn: usize) -> Basis
-    requires { (n ≤ 32) × (turn < n) × (words.count ≤ 16) }
-    ensures { (result.count ≡ words.count) × (take result.count result.rows ≡ map (rotated n (n - turn)) (take words.count words.rows)) }
-{
-    let count = words.count;
-    let rows = words.rows;
-    let out = rows_rotated(rows, n, n - turn);
-    Basis {
-        rows: out,
-        count: count,
+    // The disks whose slots are in the set.
+    pub fn disks_of(self, set: u32) -> u32
+        requires { set < 2 ^ self.n }
+        ensures { result ≡ disks_of self.n self.by set }
+    {
+        rotated(set, self.n, self.by)
     }
-}
 
-// The disk whose strip stands in slot s.
-fn disk_in(n: usize, turn: usize, s: usize) -> usize
-    requires { (n ≤ 32) × (turn < n) × (s < n) }
-    ensures { (result ≡ disk_in n turn s) × (result < n) }
-{
-    if s < turn {
-        return s + (n - turn);
+    // The slots of the disks in the set.
+    pub fn slots_of(self, set: u32) -> u32
+        requires { set < 2 ^ self.n }
+        ensures { result ≡ slots_of self.n self.by set }
+    {
+        rotated(set, self.n, self.n - self.by)
     }
-    s - turn
-}
 
-// Where slot s is a target, an equation of its disk among the disks that are left, by slots; the empty set where
-// it is not.
-fn equation_if_target(
-    checks: Basis,
-    left: u32,
-    n: usize,
-    turn: usize,
-    targets: u32,
-    s: usize,
-) -> u32
-    requires { (checks.count ≤ 16) × (n ≤ 32) × (turn < n) × (s < n) }
-    ensures { result ≡ (if has targets s then rotated n (n - turn) (equation_in (take checks.count checks.rows) left (disk_in n turn s)) else 0) }
-{
-    if gf2::has(targets, s as u32) {
-        let equation = repairs::equation_in(checks, left, disk_in(n, turn, s));
-        rotated(equation, n, n - turn)
-    } else {
-        0
+    // The words of a basis as sets of slots. All sixteen rows are rotated, in registers.
+    pub fn basis(self, words: &Basis) -> Basis
+        ensures { result ≡ map (rotated self.n (self.n - self.by)) words.now }
+    {
+        let mut rows = words.rows();
+        for row in &mut rows {
+            *row = rotated(*row, self.n, self.n - self.by);
+        }
+        Basis::of(rows, words.words().len())
     }
-}
 
-// The same of each slot below n, at its place.
-pub fn equations(checks: Basis, left: u32, n: usize, turn: usize, targets: u32) -> [u32; 32]
-    requires { (checks.count ≤ 16) × (n ≤ 32) × (turn < n) }
-    ensures { result ≡ tabulate 32 (λ s. if ltb s n && has targets s then rotated n (n - turn) (equation_in (take checks.count checks.rows) left (disk_in n turn s)) else 0) }
-{
-    let mut out = [0u32; 32];
-    for s in 0..n {
-        out[s] = equation_if_target(checks, left, n, turn, targets, s);
+    // The disk whose strip stands in slot s.
+    fn disk_in(self, s: usize) -> usize
+        requires { s < self.n }
+        ensures { (result ≡ disk_in self.n self.by s) × (result < self.n) }
+    {
+        if s < self.by {
+            return s + (self.n - self.by);
+        }
+        s - self.by
     }
-    out
+
+    // Where slot s is a target, an equation of its disk among the disks that are left, by slots; the empty set where
+    // it is not.
+    fn equation_if_target(self, checks: &Basis, left: u32, targets: u32, s: usize) -> u32
+        requires { s < self.n }
+        ensures { result ≡ (if has targets s then rotated self.n (self.n - self.by) (equation_in checks.now left (disk_in self.n self.by s)) else 0) }
+    {
+        if gf2::has(targets, s as u32) {
+            let equation = repairs::equation_in(checks, left, self.disk_in(s));
+            rotated(equation, self.n, self.n - self.by)
+        } else {
+            0
+        }
+    }
+
+    // The same of each slot below n, at its place.
+    pub fn equations(self, checks: &Basis, left: u32, targets: u32) -> [u32; 32]
+        ensures { result ≡ tabulate 32 (λ s. if ltb s self.n && has targets s then rotated self.n (self.n - self.by) (equation_in checks.now left (disk_in self.n self.by s)) else 0) }
+    {
+        let mut out = [0; 32];
+        for s in 0..self.n {
+            out[s] = self.equation_if_target(checks, left, targets, s);
+        }
+        out
+    }
 }

@@ -2,29 +2,29 @@
 -- Assumes nothing.
 use mathlib.Core.Path.{◌≡◌, refl, sym, ap, ◌∙◌}
 use lib.Dec.{eqb}
-use Rattle.std.specs.Prelude.{if◌then◌else◌}
+use Rattle.std.specs.Prelude.{if◌then◌else◌, Result, Ok, Err}
 use Rattle.flat.specs.Faults.{Report}
-use Rattle.stepped_card.specs.declared.SteppedWritten.{SteppedWritten}
-use Rattle.stepped_card.specs.declared.SteppedWritten.TheVariants as written
+use Rattle.stepped_card.specs.declared.SteppedFault.{SteppedFault}
+use Rattle.stepped_card.specs.declared.SteppedFault.TheVariants as fault
 use Rattle.stepped_card.specs.Reports.{report}
 use Rattle.stepped_card.specs.Theorems.{SteppedInjective}
 
-abbrev written_of : Report → SteppedWritten
-written_of r =
-    if eqb r.number 0 then written.Done else
-    if eqb r.number 2 then written.DataCount else
-    if eqb r.number 3 then written.ParityCount else
-    if eqb r.number 20 then written.Distance else
-    if eqb r.number 21 then written.Bounds else
-    written.Buffer
+abbrev answer_of : Report → Result (Unit {0}) SteppedFault
+answer_of r =
+    if eqb r.number 0 then Ok tt else
+    if eqb r.number 2 then Err fault.DataCount else
+    if eqb r.number 3 then Err fault.ParityCount else
+    if eqb r.number 20 then Err fault.Distance else
+    if eqb r.number 21 then Err fault.Bounds else
+    Err fault.Buffer
 
-written_back : (r : SteppedWritten) → written_of (report r) ≡ r
-written_back written.Done = refl
-written_back written.DataCount = refl
-written_back written.ParityCount = refl
-written_back written.Distance = refl
-written_back written.Bounds = refl
-written_back written.Buffer = refl
+answer_back : (r : Result (Unit {0}) SteppedFault) → answer_of (report r) ≡ r
+answer_back (Ok tt) = refl
+answer_back (Err fault.DataCount) = refl
+answer_back (Err fault.ParityCount) = refl
+answer_back (Err fault.Distance) = refl
+answer_back (Err fault.Bounds) = refl
+answer_back (Err fault.Buffer) = refl
 
 pub stepped_injective : SteppedInjective
-stepped_injective a b e = sym (written_back a) ∙ ap written_of e ∙ written_back b
+stepped_injective a b e = sym (answer_back a) ∙ ap answer_of e ∙ answer_back b

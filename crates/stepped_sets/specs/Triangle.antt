@@ -1,6 +1,6 @@
 -- Pascal's triangle as the code holds it. Nobody has to believe it: no public contract names it.
 -- Assumes nothing.
-use Rattle.std.specs.Prelude.{◌≡◌, List, ℕ, ◌+◌, ◌*◌, ◌/◌, ◌%◌, ◌≤◌}
+use Rattle.std.specs.Prelude.{List, ℕ, ◌+◌, ◌*◌, ◌/◌, ◌%◌}
 use Rattle.flat.specs.Lists.{tabulate, padded}
 use Rattle.stepped_codes.specs.Stepped.{choose}
 
@@ -13,7 +13,3 @@ cell t = choose (t / 8) (t % 8)
 unfoldable pub rows_to : ℕ → List ℕ
 unfolding tabulate padded cell
 rows_to n = padded 64 (tabulate (8 * n + 8) cell)
-
--- row n is among the rows of the table
-abbrev pub HasRow : List ℕ → ℕ → Type 0
-HasRow rows n = (p : ℕ) × (rows ≡ rows_to p) × (n ≤ p) × (p ≤ 7)

@@ -5,3 +5,5 @@ pub mod Walked
 pub mod Totals
 pub mod Placed
 pub mod Aside
+pub mod Within
+pub mod Widths

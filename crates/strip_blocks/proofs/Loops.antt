@@ -11,7 +11,9 @@ use native.Mathlib.Omega.{arith}
 use lib.Bits.{bit_or, bit_and, or_add_and, and_le_l, and_le_r}
 use lib.Dec.{eqb}
 use lib.ListN.{length, get_or, set, take, length-set}
-use lib.Seq.{ext_get_or, get_or-set_same, get_or-set_other, paste, paste-zero, paste-suc, take-length}
+use lib.Seq.{ext_get_or, get_or-set_same, get_or-set_other, paste, paste-zero, paste-suc, take-length, take_all}
+use borrow.Rule.Slice.PartMut.{put_mid}
+use Rattle.std.proofs.lemmas.Slice.{put_mid-paste}
 use Rattle.gf2.proofs.Tests.{T-ext, and_in, and_out, eqb_in, eqb_out, below_suc}
 use Rattle.flat.specs.Lists.{every, tabulate, put}
 use Rattle.flat.proofs.Lists.{length-tabulate, get_d_tabulate, paste-put}
@@ -63,6 +65,11 @@ copied_first s₀ src s at i n r e h = r.so_far ∙ ap (paste s₀ at src) e ∙
 
 pub copied_all : (s₀ src s : List ℕ) (at i : ℕ) → Copied s₀ src at i s → i ≡ length src → s ≡ put s₀ at src
 copied_all s₀ src s at i r e = copied_first s₀ src s at i (length src) r e (le_refl (length src)) ∙ ap (put s₀ at) (take-length src)
+
+-- a part of k bytes written at once
+pub part_put : (a k : ℕ) (s part src : List ℕ) → part ≡ src → length src ≡ k → put_mid a k s part ≡ put s a src
+part_put a k s part src e h =
+    put_mid-paste a k s part src k e refl (sym h) ∙ paste-put s a src k (omega arith) ∙ ap (put s a) (take_all k src (omega arith))
 
 -- ---- bytes joined by OR
 

@@ -8,8 +8,8 @@ use Prim.Native.Nat.{ℕ, ◌+◌, ◌*◌, ◌≤◌, ◌<◌}
 use native.Mathlib.Numerals.{add-one}
 use native.Mathlib.Omega.{arith}
 use lib.Dec.{T}
-use lib.ListN.{length, get_or, set, length-set}
-use lib.Seq.{get_or-set_same, get_or-set_other}
+use lib.ListN.{length, get_or, set, take, length-set}
+use lib.Seq.{get_or-set_same, get_or-set_other, get_or-take, length-take-le}
 use Rattle.gf2.specs.Sets.{has, ◌⊕◌, over}
 use Rattle.gf2.proofs.Tests.{true-T, below_suc}
 use Rattle.gf2.proofs.Xor.{⊕-zero}
@@ -73,6 +73,22 @@ module _ (wanted n size : ℕ) (g : ℕ → ℕ) where
       strips : (j : ℕ) → (j < count) ⊎ (j ≡ count) → (d : ℕ) × (d < n) × T (has wanted d) × (get_or (set at count (g i)) j 0 ≡ g d)
       strips j (inl m) = s.strips j m
       strips j (inr q) = (i, h, true-T e, ap (λ (x : ℕ). get_or (set at count (g i)) x 0) q ∙ new)
+
+  -- the list of them by itself
+  module _ (i : ℕ) (at : List ℕ) (count : ℕ) (r : Placed i at count) (few : i ≤ size) where
+    pub placed-length : length (take count at) ≡ count
+    placed-length = length-take-le count at (omega (arith, r.few, r.places))
+
+    pub placed-strips : (j : ℕ) → j < length (take count at) → (d : ℕ) × (d < n) × T (has wanted d) × (get_or (take count at) j 0 ≡ g d)
+    placed-strips j h =
+        let m : j < count = omega (arith, placed-length) in
+        let p = r.strips j m in
+        (p.0, p.1, p.2, get_or-take count at j 0 m ∙ p.3)
+
+    pub placed-sums : (f : ℕ → ℕ) → total (length (take count at)) (λ j. f (get_or (take count at) j 0)) ≡ over i wanted (λ d. f (g d))
+    placed-sums f =
+        ap (λ (m : ℕ). total m (λ j. f (get_or (take count at) j 0))) placed-length
+        ∙ total_cong count (λ j. f (get_or (take count at) j 0)) (λ j. f (get_or at j 0)) (λ j m. ap f (get_or-take count at j 0 m)) ∙ r.same f
 
 -- a strip of one of n disks is within the n strips
 pub place_inside : (n l i p : ℕ) → i < n → p ≡ i * l → p + l ≤ n * l

@@ -6,7 +6,6 @@ ghost use Rattle.flat.specs.Lists.{tabulate};
 ghost use Rattle.flat.specs.Strips.{byte_of};
 
 use crate::added;
-use crate::narrow::{added_16, sum_16};
 
 // Whether the set holds at most half of n disks. It chooses the way, and no more. With few disks and short strips
 // it answers no without counting, which would cost more than it brings: with 32 disks it always counts, with 14
@@ -21,46 +20,19 @@ pub fn is_sparse(set: u32, n: usize, l: usize) -> bool
     gf2::size(set) <= n as u32 / 2
 }
 
-// Of the XOR of the strips of the disks below n that are in the set: the 128 bytes from o on.
-pub fn sum_walked(s: &[u8], l: usize, n: usize, set: u32, o: usize) -> [u8; 128]
-    requires { (n ≤ 32) × (n * l + o + 128 ≤ length s.now + l) }
-    ensures { result ≡ tabulate 128 (λ t. over n set (byte_of l s.now (o + t))) }
+// Of the XOR of the strips of the disks below n that are in the set: the W bytes from o on. What is left of the set is
+// both the loop's measure and its index, so a `for` over an iterator of its disks would be no plainer.
+#[tactic(auto, using(crate::proofs::Within::lowest_fits, crate::proofs::Within::lowest_less))]
+pub fn sum_walked<const W: usize>(s: &[u8], l: usize, n: usize, set: u32, o: usize) -> [u8; W]
+    requires { (n ≤ 32) × (n * l + o + W ≤ length s.now + l) }
+    ensures { result ≡ tabulate W (λ t. over n set (byte_of l s.now (o + t))) }
 {
-    let mut block = [0u8; 128];
+    let mut block = [0u8; W];
     let mut left = gf2::first_of(set, n as u32);
     while left != 0 {
         let i = gf2::lowest(left);
-        let next = added(block, s, i as usize * l + o);
-        block = next;
+        block = added(block, s, i as usize * l + o);
         left = gf2::without(left, i);
     }
     block
-}
-
-// Of the same XOR the 16 bytes from o on.
-pub fn sum_walked_16(s: &[u8], l: usize, n: usize, set: u32, o: usize) -> [u8; 16]
-    requires { (n ≤ 32) × (n * l + o + 16 ≤ length s.now + l) }
-    ensures { result ≡ tabulate 16 (λ t. over n set (byte_of l s.now (o + t))) }
-{
-    let mut block = [0u8; 16];
-    let mut left = gf2::first_of(set, n as u32);
-    while left != 0 {
-        let i = gf2::lowest(left);
-        let next = added_16(block, s, i as usize * l + o);
-        block = next;
-        left = gf2::without(left, i);
-    }
-    block
-}
-
-// The same in the way that suits the set, for strips of one block.
-pub fn block_16(s: &[u8], l: usize, n: usize, set: u32, o: usize) -> [u8; 16]
-    requires { (n ≤ 32) × (n * l + o + 16 ≤ length s.now + l) }
-    ensures { result ≡ tabulate 16 (λ t. over n set (byte_of l s.now (o + t))) }
-{
-    if is_sparse(set, n, l) {
-        sum_walked_16(s, l, n, set, o)
-    } else {
-        sum_16(s, l, n, set, o)
-    }
 }

@@ -5,35 +5,29 @@
 // It assumes strips of 128 bytes or more, at most 32 disks, and that no strip that is read is a target's.
 #![tactic(auto)]
 
-ghost use Rattle.std.specs.Prelude.{◌≡◌, ◌&&◌, ℕ, ◌+◌, ◌-◌, ◌*◌, ◌/◌, ◌%◌, ◌<◌, ◌≤◌, T, leb, ltb, length, get_or, take, drop, if◌then◌else◌};
+ghost use Rattle.std.specs.Prelude.{◌≡◌, ◌&&◌, ℕ, ◌+◌, ◌-◌, ◌*◌, ◌/◌, ◌%◌, ◌<◌, ◌≤◌, T, leb, ltb, length, get_or, if◌then◌else◌};
 ghost use Rattle.gf2.specs.Sets.{has, over};
 ghost use Rattle.flat.specs.Lists.{tabulate, put};
 ghost use Rattle.flat.specs.Strips.{byte_of};
 ghost use Rattle.flat.specs.Repairs.{filled};
 ghost use Rattle.strip_dense.specs.Named.{named};
 
-// Copies 128 bytes of the slice from a place on into the local array.
-fn copy(local: &mut [u8; 4096], to: usize, s: &[u8], at: usize)
-    requires { (length local.old ≡ 4096) × (to + 128 ≤ 4096) × (at + 128 ≤ length s.now) }
-    ensures { local.new ≡ put local.old to (take 128 (drop at s.now)) }
-{
-    for t in 0..128 {
-        local[to + t] = s[at + t];
-    }
-}
-
 // The 128 bytes from o on of the strips of the disks below n, one after the other.
+#[tactic(auto, using(strip_blocks::proofs::Within::strip_fits))]
 pub fn gather(local: &mut [u8; 4096], s: &[u8], l: usize, n: usize, o: usize)
     requires { (length local.old ≡ 4096) × (n ≤ 32) × (o + 128 ≤ l) × (n * l ≤ length s.now) }
     ensures local_len { length local.new ≡ 4096 }
     ensures by_index { (t i : ℕ) → t < 128 → i < n → byte_of 128 local.new t i ≡ byte_of l s.now (o + t) i }
 {
     for i in 0..n {
-        copy(local, i * 128, s, i * l + o);
+        let from = i * l + o;
+        let to = i * 128;
+        local[to..to + 128].copy_from_slice(&s[from..from + 128]);
     }
 }
 
 // The 128 bytes from o on of the strip of each target d become the XOR of the blocks of the disks in set d.
+#[tactic(auto, using(strip_blocks::proofs::Within::strip_fits))]
 fn fill_block(
     s: &mut [u8],
     local: &[u8],
@@ -48,7 +42,7 @@ fn fill_block(
 {
     for d in 0..n {
         if gf2::has(targets, d as u32) {
-            let block = strip_blocks::sum(local, 128, n, sets[d], 0);
+            let block = strip_blocks::sum::<128>(local, 128, n, sets[d], 0);
             strip_blocks::put(s, d * l + o, block);
         }
     }
@@ -56,17 +50,15 @@ fn fill_block(
 
 // The strips of the targets, of 128 bytes or more.
 pub fn fill(s: &mut [u8], l: usize, n: usize, targets: u32, sets: [u32; 32])
-    requires le_l { (128 ≤ l) × (n ≤ 32) × (n * l ≡ length s.old) }
-    requires by_index { (d i : ℕ) → T (has targets d) → i < n → T (has (get_or sets d 0) i) → T (has targets i) → ⊥ }
+    requires sizes { (128 ≤ l) × (n ≤ 32) × (n * l ≡ length s.old) }
+    requires apart { (d i : ℕ) → T (has targets d) → i < n → T (has (get_or sets d 0) i) → T (has targets i) → ⊥ }
     ensures { s.new ≡ filled n l (λ d. get_or sets d 0) targets s.old }
 {
     let mut local = [0u8; 4096];
-    let mut o = 0;
-    while o < l {
-        let start = strip_blocks::block_start(o, 128, l);
+    for b in 0..l.div_ceil(128) {
+        let start = strip_blocks::block_start(b * 128, 128, l);
         gather(&mut local, s, l, n, start);
         fill_block(s, &local, l, n, targets, sets, start);
-        o = start + 128;
     }
 }
 
@@ -79,8 +71,7 @@ pub fn is_dense(n: usize, targets: u32, sets: [u32; 32]) -> bool
     let mut named = 0usize;
     for d in 0..n {
         if gf2::has(targets, d as u32) {
-            let size = gf2::size(sets[d]);
-            named += size as usize;
+            named += gf2::size(sets[d]) as usize;
         }
     }
     3 * n <= named

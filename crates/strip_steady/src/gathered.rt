@@ -1,19 +1,21 @@
 // The same where many long strips are read often: the 128 bytes at one offset of all data strips go into a
 // local array, and that block of every parity strip is computed from it. Strips that lie a power of two
 // apart drive each other out of the cache, and so their bytes are read from the stripe once.
-ghost use Rattle.std.specs.Prelude.{◌≡◌, ◌&&◌, ℕ, ◌+◌, ◌-◌, ◌*◌, ◌%◌, ◌<◌, ◌≤◌, leb, ltb, length, get_or, if◌then◌else◌};
+ghost use Rattle.std.specs.Prelude.{◌≡◌, ◌&&◌, [], ℕ, ◌+◌, ◌-◌, ◌*◌, ◌%◌, ◌<◌, ◌≤◌, leb, ltb, length, get_or, if◌then◌else◌};
 ghost use Rattle.flat.specs.Strips.{byte_of};
-ghost use Rattle.strip_products.specs.Products.{Bits, products, striped, multiplied};
+ghost use Rattle.strip_products.specs.Products.{products, striped, multiplied};
 
-// The lanes of all parity disks, 256 for each. The other places mean nothing.
-fn lanes_of(k: usize, m: usize, bits: &[u8; 256]) -> [u8; 4096]
-    requires { (k ≤ 16) × (m ≤ 16) × (length bits.now ≡ 256) × Bits bits.now }
-    ensures bits { Bits result }
-    ensures by_index { (j i u : ℕ) → j < m → i < k → u < 16 → get_or result (j * 256 + i * 16 + u) 0 ≡ get_or bits.now (i * 16 + j) 0 }
+use strip_lanes::Lanes;
+use strip_products::BitTable;
+
+// The lanes of each parity disk. Those of disks from m on mean nothing.
+fn lanes_of(k: usize, m: usize, bits: &BitTable) -> [Lanes; 16]
+    requires { (k ≤ 16) × (m ≤ 16) }
+    ensures { (j i u : ℕ) → j < m → i < k → u < 16 → get_or (get_or result j []) (i * 16 + u) 0 ≡ get_or bits.now (i * 16 + j) 0 }
 {
-    let mut lanes = [0u8; 4096];
+    let mut lanes = [Lanes::new(); 16];
     for j in 0..m {
-        strip_lanes::spread(&mut lanes, j * 256, k, bits, j);
+        lanes[j].spread(k, bits, j);
     }
     lanes
 }
@@ -25,30 +27,28 @@ fn fill_block(
     l: usize,
     k: usize,
     m: usize,
-    lanes: &[u8; 4096],
+    lanes: &[Lanes; 16],
     o: usize,
 )
-    requires { (k ≤ 16) × (m ≤ 16) × (k * 128 ≤ length local.now) × (o + 128 ≤ l) × ((k + m) * l ≡ length s.old) × (length lanes.now ≡ 4096) × Bits lanes.now }
-    ensures { s.new ≡ striped k l (λ j t. if leb o t && ltb t (o + 128) then products k (byte_of 128 local.now (t - o)) (λ i. get_or lanes.now (j * 256 + i * 16 + (t - o) % 16) 0) else byte_of l s.old t (k + j)) s.old }
+    requires { (k ≤ 16) × (m ≤ 16) × (k * 128 ≤ length local.now) × (o + 128 ≤ l) × ((k + m) * l ≡ length s.old) }
+    ensures { s.new ≡ striped k l (λ j t. if leb o t && ltb t (o + 128) then products k (byte_of 128 local.now (t - o)) (λ i. get_or (get_or lanes.now j []) (i * 16 + (t - o) % 16) 0) else byte_of l s.old t (k + j)) s.old }
 {
     for j in 0..m {
-        let block = strip_lanes::sum(local, 128, k, lanes, j * 256, 0);
+        let block = lanes[j].sum(local, 128, k, 0);
         strip_blocks::put(s, (k + j) * l + o, block);
     }
 }
 
 // The parity strips, of 128 bytes or more.
-pub(crate) fn fill(s: &mut [u8], l: usize, k: usize, m: usize, bits: &[u8; 256])
-    requires { (128 ≤ l) × (k ≤ 16) × (m ≤ 16) × ((k + m) * l ≡ length s.old) × (length bits.now ≡ 256) × Bits bits.now }
+pub(crate) fn fill(s: &mut [u8], l: usize, k: usize, m: usize, bits: &BitTable)
+    requires { (128 ≤ l) × (k ≤ 16) × (m ≤ 16) × ((k + m) * l ≡ length s.old) }
     ensures { s.new ≡ multiplied k l bits.now s.old }
 {
     let lanes = lanes_of(k, m, bits);
     let mut local = [0u8; 4096];
-    let mut o = 0;
-    while o < l {
-        let start = strip_blocks::block_start(o, 128, l);
+    for b in 0..l.div_ceil(128) {
+        let start = strip_blocks::block_start(b * 128, 128, l);
         strip_dense::gather(&mut local, s, l, k, start);
         fill_block(s, &local, l, k, m, &lanes, start);
-        o = start + 128;
     }
 }

@@ -1,12 +1,12 @@
 // Parity strips by products, in the way that suits k, m and the strips' length: which way is taken, what is
 // read and how often follow from these alone, and never from a bit or a byte.
-//
-// A row of the table `bits` has 16 places, bit j for parity disk k + j.
 #![tactic(auto)]
 
 ghost use Rattle.std.specs.Prelude.{◌≡◌, ◌&&◌, ◌+◌, ◌*◌, ◌<◌, ◌≤◌, leb, ltb, length};
 ghost use Rattle.flat.specs.Lists.{put};
-ghost use Rattle.strip_products.specs.Products.{Bits, parity_strip, multiplied};
+ghost use Rattle.strip_products.specs.Products.{parity_strip, multiplied};
+
+use strip_products::BitTable;
 
 mod gathered;
 
@@ -22,8 +22,8 @@ fn over_ok(l: usize, m: usize) -> bool
 }
 
 // The strip of parity disk k + j, of 16 bytes or more.
-fn fill_strip(s: &mut [u8], l: usize, k: usize, m: usize, bits: &[u8; 256], j: usize)
-    requires { (16 ≤ l) × (l ≤ 65536) × (k ≤ 16) × (m ≤ 16) × ((k + m) * l ≡ length s.old) × (length bits.now ≡ 256) × Bits bits.now × (j < m) }
+fn fill_strip(s: &mut [u8], l: usize, k: usize, m: usize, bits: &BitTable, j: usize)
+    requires { (16 ≤ l) × (l ≤ 65536) × (k ≤ 16) × (m ≤ 16) × ((k + m) * l ≡ length s.old) × (j < m) }
     ensures { s.new ≡ put s.old ((k + j) * l) (parity_strip k l bits.now s.old j) }
 {
     if 128 <= l {
@@ -36,8 +36,8 @@ fn fill_strip(s: &mut [u8], l: usize, k: usize, m: usize, bits: &[u8; 256], j: u
 }
 
 // The parity strips, one after the other.
-fn fill_each(s: &mut [u8], l: usize, k: usize, m: usize, bits: &[u8; 256])
-    requires { (16 ≤ l) × (l ≤ 65536) × (k ≤ 16) × (m ≤ 16) × ((k + m) * l ≡ length s.old) × (length bits.now ≡ 256) × Bits bits.now }
+fn fill_each(s: &mut [u8], l: usize, k: usize, m: usize, bits: &BitTable)
+    requires { (16 ≤ l) × (l ≤ 65536) × (k ≤ 16) × (m ≤ 16) × ((k + m) * l ≡ length s.old) }
     ensures { s.new ≡ multiplied k l bits.now s.old }
 {
     for j in 0..m {
@@ -59,8 +59,8 @@ fn gather_ok(l: usize, k: usize, m: usize) -> bool
 }
 
 // The parity strips.
-pub fn fill(s: &mut [u8], l: usize, k: usize, m: usize, bits: &[u8; 256])
-    requires { (1 ≤ l) × (l ≤ 65536) × (k ≤ 16) × (m ≤ 16) × ((k + m) * l ≡ length s.old) × (length bits.now ≡ 256) × Bits bits.now }
+pub fn fill(s: &mut [u8], l: usize, k: usize, m: usize, bits: &BitTable)
+    requires { (1 ≤ l) × (l ≤ 65536) × (k ≤ 16) × (m ≤ 16) × ((k + m) * l ≡ length s.old) }
     ensures { s.new ≡ multiplied k l bits.now s.old }
 {
     if l < 16 {

@@ -3,88 +3,93 @@
 use mathlib.Core.Path.{◌≡◌, refl, sym, ap, ap₂, ◌∙◌}
 use mathlib.Core.Logic.{◌⊎◌, inl, inr}
 use mathlib.Core.List.{List}
-use Prim.Native.Nat.{ℕ, suc, ◌+◌, ◌≤◌, ◌<◌}
+use Prim.Native.Nat.{ℕ, zero, suc, ◌+◌, ◌-◌, ◌/◌, ◌%◌, ◌≤◌, ◌<◌}
+use native.Mathlib.Nat.{zero-add}
 use native.Mathlib.Numerals.{add-one}
 use native.Mathlib.Omega.{arith}
 use lib.Dec.{eqb}
-use lib.ListN.{length, get_or, set, take, length-set}
-use lib.Seq.{get_or-set_same, get_or-set_other, length-take-le}
+use lib.ListN.{length, get_or, set, take, replicate, length-replicate}
+use lib.Seq.{length-take-le}
 use Rattle.gf2.specs.Sets.{◌⊕◌}
-use Rattle.gf2.proofs.Tests.{below_suc, below_or}
+use Rattle.gf2.proofs.Tests.{below_or}
 use Rattle.gf2.proofs.Xor.{⊕_assoc, ⊕_self, ⊕-zero}
 use Rattle.flat.specs.Lists.{every, tabulate, put}
-use Rattle.flat.proofs.Lists.{length-tabulate, get_d_tabulate, put-before, put-after}
+use Rattle.flat.proofs.Lists.{length-tabulate, get_d_tabulate, constant, put-before, put-new, put-after}
 use Rattle.strip_blocks.specs.Totals.{total, xor_at}
 use Rattle.strip_blocks.proofs.Loops.{Copied, copied_more, copied_first, copied_all}
-use Rattle.strip_blocks.specs.Places.{Inside, Apart}
+use Rattle.strip_blocks.specs.Places.{Apart}
 use Rattle.strip_blocks.proofs.Totals.{total_cong}
 
 -- ---- places filled up with pairs, which cancel
 
-pub record FilledUp (at : List ℕ) (count j : ℕ) (out : List ℕ) : Type 0 where
-  pub long : length out ≡ 32
-  pub from : (q : ℕ) → q < j → (i : ℕ) × (i < count) × (get_or out q 0 ≡ get_or at i 0)
-  pub same : (f : ℕ → ℕ) → total j (λ q. f (get_or out q 0)) ≡ total count (λ q. f (get_or at q 0))
-
-pub up_none : (at : List ℕ) (count : ℕ) → length at ≡ 32 → FilledUp at count count at
-up_none at count e = record { long = e; from = λ q h. (q, h, refl); same = λ f. refl }
-
-pub up_more : (at : List ℕ) (count j : ℕ) (out : List ℕ) → FilledUp at count j out → 0 < count → j + 1 < 32
-    → FilledUp at count (j + 2) (set (set out j (get_or at 0 0)) (j + 1) (get_or at 0 0))
+pairs-cancel : (f : ℕ → ℕ) (v count k : ℕ) → ((j : ℕ) → count ≤ j → j < count + (k + k) → f j ≡ v) → total (count + (k + k)) f ≡ total count f
 unfolding total
-up_more at count j out r h k =
-    record { long = length-set mid (j + 1) v ∙ length-set out j v ∙ r.long; from = λ q m. from q m (below_or q j); same = same }
+pairs-cancel f v count zero h = ap (λ (n : ℕ). total n f) (let e : count + (0 + 0) ≡ count = omega arith in e)
+pairs-cancel f v count (suc k) h =
+    let m : ℕ = count + (k + k) in
+    let e : count + (suc k + suc k) ≡ suc (suc m) = omega arith in
+    ap (λ (n : ℕ). total n f) e
+    ∙ ap₂ (λ (x y : ℕ). total m f ⊕ x ⊕ y) (h m (omega arith) (omega arith)) (h (suc m) (omega arith) (omega arith))
+    ∙ ⊕_assoc (total m f) v v ∙ ap (λ (x : ℕ). total m f ⊕ x) (⊕_self v) ∙ ⊕-zero (total m f) ∙ pairs-cancel f v count k (λ j a b. h j a (omega arith))
+
+-- n places, of which the first are those of a list and the others its first one
+pub record FilledUp (at : List ℕ) (n : ℕ) (out : List ℕ) : Type 0 where
+  pub first : (j : ℕ) → j < length at → get_or out j 0 ≡ get_or at j 0
+  pub others : (j : ℕ) → length at ≤ j → j < n → get_or out j 0 ≡ get_or at 0 0
+
+pub filled-up : (at : List ℕ) (n : ℕ) (out : List ℕ) → length at ≤ n → out ≡ put (replicate n (get_or at 0 0)) 0 at → FilledUp at n out
+filled-up at n out few e =
+    record {
+      first =
+          λ j h. ap (λ (x : List ℕ). get_or x j 0) e ∙ ap (λ (x : ℕ). get_or (put base 0 at) x 0) (sym (zero-add j))
+          ∙ put-new base 0 at (length at) room refl j h;
+      others =
+          λ j h k. ap (λ (x : List ℕ). get_or x j 0) e ∙ put-after base 0 at (length at) room refl j (omega arith)
+          ∙ ap (λ (x : List ℕ). get_or x j 0) (constant n v) ∙ get_d_tabulate n (λ i. v) j k;
+    }
   where
     v : ℕ
     v = get_or at 0 0
 
-    mid : List ℕ
-    mid = set out j v
+    base : List ℕ
+    base = replicate n v
 
-    old : (q : ℕ) → q < j → get_or (set mid (j + 1) v) q 0 ≡ get_or out q 0
-    old q m = get_or-set_other mid (j + 1) q v 0 (λ e. omega arith) ∙ get_or-set_other out j q v 0 (λ e. omega arith)
+    room : 0 + length at ≤ length base
+    room = omega (arith, length-replicate n v)
 
-    one : get_or (set mid (j + 1) v) j 0 ≡ v
-    one = get_or-set_other mid (j + 1) j v 0 (λ e. omega arith) ∙ get_or-set_same out j v 0 (omega (arith, r.long))
+module _ (at : List ℕ) (n : ℕ) (out : List ℕ) (r : FilledUp at n out) where
+  pub filled-places : 1 ≤ length at → (j : ℕ) → j < n → (i : ℕ) × (i < length at) × (get_or out j 0 ≡ get_or at i 0)
+  filled-places some j h = go (below_or j (length at))
+    where
+      go : (j < length at) ⊎ (length at ≤ j) → (i : ℕ) × (i < length at) × (get_or out j 0 ≡ get_or at i 0)
+      go (inl m) = (j, m, r.first j m)
+      go (inr m) = (0, some, r.others j m h)
 
-    two : get_or (set mid (j + 1) v) (suc j) 0 ≡ v
-    two = ap (λ (x : ℕ). get_or (set mid (j + 1) v) x 0) (sym (add-one j)) ∙ get_or-set_same mid (j + 1) v 0 (omega (arith, length-set out j v, r.long))
+  pub filled-sums : length at ≤ n → (n - length at) % 2 ≡ 0 → (f : ℕ → ℕ) → total n (λ j. f (get_or out j 0)) ≡ total (length at) (λ j. f (get_or at j 0))
+  filled-sums few even f =
+      let count : ℕ = length at in
+      let k : ℕ = (n - count) / 2 in
+      let e : n ≡ count + (k + k) = omega arith in
+      ap (λ (x : ℕ). total x (λ j. f (get_or out j 0))) e
+      ∙ pairs-cancel (λ j. f (get_or out j 0)) (f (get_or at 0 0)) count k (λ j a b. ap f (r.others j a (omega arith)))
+      ∙ total_cong count (λ j. f (get_or out j 0)) (λ j. f (get_or at j 0)) (λ j m. ap f (r.first j m))
 
-    from : (q : ℕ) → q < j + 2 → (q < j) ⊎ (j ≤ q) → (i : ℕ) × (i < count) × (get_or (set mid (j + 1) v) q 0 ≡ get_or at i 0)
-    from q b (inl m) = let p = r.from q m in (p.0, p.1, old q m ∙ p.2)
-    from q b (inr m) = (0, h, last (below_suc q (suc j) (omega arith)))
-      where
-        last : (q < suc j) ⊎ (q ≡ suc j) → get_or (set mid (j + 1) v) q 0 ≡ v
-        last (inl x) = let e : q ≡ j = omega arith in ap (λ (y : ℕ). get_or (set mid (j + 1) v) y 0) e ∙ one
-        last (inr e) = ap (λ (y : ℕ). get_or (set mid (j + 1) v) y 0) e ∙ two
-
-    same : (f : ℕ → ℕ) → total (j + 2) (λ q. f (get_or (set mid (j + 1) v) q 0)) ≡ total count (λ q. f (get_or at q 0))
-    same f =
-        let g : ℕ → ℕ = λ q. f (get_or (set mid (j + 1) v) q 0) in
-        let e : j + 2 ≡ suc (suc j) = omega arith in
-        ap (λ (n : ℕ). total n g) e
-        ∙ ap₂ ◌⊕◌ (ap₂ ◌⊕◌ (total_cong j g (λ q. f (get_or out q 0)) (λ q m. ap f (old q m))) (ap f one)) (ap f two)
-        ∙ ⊕_assoc (total j (λ q. f (get_or out q 0))) (f v) (f v) ∙ ap (λ (x : ℕ). total j (λ q. f (get_or out q 0)) ⊕ x) (⊕_self (f v))
-        ∙ ⊕-zero (total j (λ q. f (get_or out q 0))) ∙ r.same f
-
--- what holds of the places holds of those filled up, and of the first of them listed by themselves
-module _ (at up : List ℕ) (count size : ℕ) (from : (q : ℕ) → q < size → (i : ℕ) × (i < count) × (get_or up q 0 ≡ get_or at i 0)) where
-  pub up-inside : (s : List ℕ) (l : ℕ) → Inside s l at count → Inside s l up size
-  up-inside s l h j m = let q = from j m in rw q.2 (h q.0 q.1)
-
-  pub up_apart : (p l : ℕ) → Apart p l at count → Apart p l up size
-  up_apart p l h j m = let q = from j m in rw q.2 (h q.0 q.1)
-
-pub listed : (at : List ℕ) (n q : ℕ) → q < n → (i : ℕ) × (i < n) × (get_or (tabulate n (λ j. get_or at j 0)) q 0 ≡ get_or at i 0)
-listed at n q h = (q, h, get_d_tabulate n (λ j. get_or at j 0) q h)
-
--- and their XOR is the same
+-- the XOR of the strips at the places filled up is the same
 module _ (s at up : List ℕ) (count size : ℕ) (same : (f : ℕ → ℕ) → total size (λ j. f (get_or up j 0)) ≡ total count (λ j. f (get_or at j 0))) where
   pub up-put : (p l : ℕ) → put s p (tabulate l (xor_at size up s)) ≡ put s p (tabulate l (xor_at count at s))
   up-put p l = λ x. put s p (tabulate l (λ t. same (λ q. get_or s (q + t) 0) x))
 
   pub up-every : (l : ℕ) → every l (λ t. eqb (xor_at size up s t) 0) ≡ every l (λ t. eqb (xor_at count at s t) 0)
   up-every l = λ x. every l (λ t. eqb (same (λ q. get_or s (q + t) 0) x) 0)
+
+-- ---- byte t of the XOR of one strip more
+
+pub xor-more : (n : ℕ) (at s : List ℕ) (t byte v : ℕ) → byte ≡ xor_at n at s t → v ≡ byte ⊕ get_or s (get_or at n 0 + t) 0
+    → v ≡ xor_at (n + 1) at s t
+unfolding total
+xor-more n at s t byte v e h =
+    h ∙ ap (λ (x : ℕ). x ⊕ get_or s (get_or at n 0 + t) 0) e
+    ∙ ap (λ (m : ℕ). total m (λ j. get_or s (get_or at j 0 + t) 0)) (sym (add-one n))
 
 -- ---- the XOR of n strips, copied into the l bytes from p on; t of them are
 

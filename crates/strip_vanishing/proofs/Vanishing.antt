@@ -13,7 +13,7 @@ use lib.ListN.{length, get_or, drop}
 use lib.Seq.{drop-cons, drop-length}
 use Rattle.gf2.specs.Sets.{over}
 use Rattle.gf2.proofs.Sums.{over_cong}
-use Rattle.gf2.proofs.Tests.{T_true, T_false, true-T, eqb_in, eqb_out, below_suc, below_or}
+use Rattle.gf2.proofs.Tests.{T_true, T_false, true-T, eqb_in, eqb_out, below_or}
 use Rattle.strip_blocks.specs.Totals.{total, xor_at}
 use Rattle.flat.specs.Lists.{every, tabulate}
 use Rattle.flat.specs.Strips.{byte_of}
@@ -78,19 +78,6 @@ module _ (n l set : ℕ) (s : List ℕ) where
       every_cong l (λ t. eqb (get_or block t 0) 0) (λ t. eqb (over n set (byte_of l s t)) 0)
       (λ t m. ap (λ (v : ℕ). eqb v 0) (block-byte w 0 block e t (omega arith) ∙ ap (λ (x : ℕ). over n set (byte_of l s x)) (zero-add t)))
 
-  -- one byte
-  pub vanished_byte : (t v : ℕ) → Vanished t → v ≡ over n set (byte_of l s t) → v ≡ 0 → Vanished (t + 1)
-  vanished_byte t v r e z = record { zero = λ u m. go u (below_suc u t (omega arith)) }
-    where
-      go : (u : ℕ) → (u < t) ⊎ (u ≡ t) → over n set (byte_of l s u) ≡ 0
-      go u (inl m) = r.zero u m
-      go u (inr q) = ap (λ (x : ℕ). over n set (byte_of l s x)) q ∙ sym e ∙ z
-
-  pub vanished_other : (t v : ℕ) → t < l → v ≡ over n set (byte_of l s t) → (v ≡ 0 → ⊥) → false ≡ vanishes n l s set
-  unfolding vanishes
-  vanished_other t v h e f =
-      sym (T_false {b = every l (λ t. eqb (over n set (byte_of l s t)) 0)} (λ u. f (e ∙ eqb_out (over n set (byte_of l s t)) 0 (every_out l (λ t. eqb (over n set (byte_of l s t)) 0) u t h))))
-
 -- ---- row by row
 
 module _ (n l : ℕ) (s rows : List ℕ) where
@@ -130,7 +117,7 @@ module _ (n l : ℕ) (s s' : List ℕ) (same : (t i : ℕ) → t < l → i < n �
   all_vanish_same [] = refl
   all_vanish_same (r ∷ rs) = ap₂ ◌&&◌ (vanishes-same r) (all_vanish_same rs)
 
--- ---- as streams, from the places that `strip_blocks::members_of` answers
+-- ---- as streams, from the places that `strip_blocks::Members::of_set` answers
 
 pub streamed_vanishes : (n l set : ℕ) (s at : List ℕ) (count : ℕ) → ((f : ℕ → ℕ) → total count (λ j. f (get_or at j 0)) ≡ over n set (λ i. f (i * l)))
     → every l (λ t. eqb (xor_at count at s t) 0) ≡ vanishes n l s set

@@ -6,81 +6,41 @@
 // strips of at most 65,536 bytes, at most 32 disks, whose strips the slice has, and at most 16 sets.
 #![tactic(auto)]
 
-ghost use Rattle.std.specs.Prelude.{◌≡◌, ◌+◌, ◌*◌, ◌<◌, ◌≤◌, length, take};
+ghost use Rattle.std.specs.Prelude.{◌≡◌, ◌+◌, ◌*◌, ◌<◌, ◌≤◌, length};
 ghost use Rattle.flat.specs.Repairs.{vanishes, all_vanish};
 
 use gf2::Basis;
+use strip_blocks::{ByStep, ByTest, Members, Way};
 
-// Whether the XOR of the strips of the disks below n that are in the set vanishes. This is for strips of
-// 128 bytes or more.
-fn vanishes_long(s: &[u8], l: usize, n: usize, set: u32) -> bool
-    requires { (128 ≤ l) × (l ≤ 65536) × (n ≤ 32) × (n * l ≤ length s.now) }
+// Whether the XOR of the strips of the disks below n that are in the set vanishes, in blocks of W bytes, by a way.
+// This is for strips of W bytes or more.
+#[tactic(auto, using(strip_blocks::proofs::Widths::block_fits))]
+fn vanishes_blocks<const W: usize, P: Way<W>>(s: &[u8], l: usize, n: usize, set: u32) -> bool
+    requires { (1 ≤ W) × (W ≤ 128) × (W ≤ l) × (n ≤ 32) × (n * l ≤ length s.now) }
     ensures { result ≡ vanishes n l s.now set }
 {
-    let mut o = 0;
-    while o + 128 <= l {
-        if !strip_blocks::is_zero(strip_blocks::sum_walked(s, l, n, set, o)) {
+    for b in 0..l / W {
+        if !strip_blocks::is_zero(P::block(s, l, n, set, b * W)) {
             return false;
         }
-        o += 128;
     }
-    if o < l {
-        return strip_blocks::is_zero(strip_blocks::sum_walked(s, l, n, set, l - 128));
+    if l % W != 0 {
+        return strip_blocks::is_zero(P::block(s, l, n, set, l - W));
     }
     true
 }
 
 // The same for long strips: four to six as streams.
 fn vanishes_few(s: &[u8], l: usize, n: usize, set: u32) -> bool
-    requires { (128 ≤ l) × (l ≤ 65536) × (n ≤ 32) × (n * l ≤ length s.now) }
+    requires { (128 ≤ l) × (n ≤ 32) × (n * l ≤ length s.now) }
     ensures { result ≡ vanishes n l s.now set }
 {
-    let members = strip_blocks::members_of(set, n, l);
-    let at = members.at;
-    let count = members.count;
-    if count < 4 {
-        return vanishes_long(s, l, n, set);
+    let members = Members::of_set(set, n, l);
+    let places = members.places();
+    match places.len() {
+        4..=6 => strip_streams::vanishes(s, l, places),
+        _ => vanishes_blocks::<128, ByStep>(s, l, n, set),
     }
-    if 6 < count {
-        return vanishes_long(s, l, n, set);
-    }
-    strip_streams::vanishes(s, l, at, count)
-}
-
-// The same for strips of 16 bytes or more.
-fn vanishes_short(s: &[u8], l: usize, n: usize, set: u32) -> bool
-    requires { (16 ≤ l) × (l ≤ 65536) × (n ≤ 32) × (n * l ≤ length s.now) }
-    ensures { result ≡ vanishes n l s.now set }
-{
-    let mut o = 0;
-    while o + 16 <= l {
-        if !strip_blocks::is_zero_16(strip_blocks::sum_16(s, l, n, set, o)) {
-            return false;
-        }
-        o += 16;
-    }
-    if o < l {
-        return strip_blocks::is_zero_16(strip_blocks::sum_16(s, l, n, set, l - 16));
-    }
-    true
-}
-
-// The same for a set of few disks; written again, since a choice for each block is slower.
-fn vanishes_sparse(s: &[u8], l: usize, n: usize, set: u32) -> bool
-    requires { (16 ≤ l) × (l ≤ 65536) × (n ≤ 32) × (n * l ≤ length s.now) }
-    ensures { result ≡ vanishes n l s.now set }
-{
-    let mut o = 0;
-    while o + 16 <= l {
-        if !strip_blocks::is_zero_16(strip_blocks::sum_walked_16(s, l, n, set, o)) {
-            return false;
-        }
-        o += 16;
-    }
-    if o < l {
-        return strip_blocks::is_zero_16(strip_blocks::sum_walked_16(s, l, n, set, l - 16));
-    }
-    true
 }
 
 // The same for strips shorter than 16 bytes, after the last of which bytes follow.
@@ -88,74 +48,55 @@ fn vanishes_narrow(s: &[u8], l: usize, n: usize, set: u32) -> bool
     requires { (l < 16) × (n ≤ 32) × (n * l + 16 ≤ length s.now) }
     ensures { result ≡ vanishes n l s.now set }
 {
-    strip_blocks::starts_zero_16(strip_blocks::block_16(s, l, n, set, 0), l)
-}
-
-// The same for strips of any length, byte by byte.
-fn vanishes_bytes(s: &[u8], l: usize, n: usize, set: u32) -> bool
-    requires { (n ≤ 32) × (n * l ≤ length s.now) }
-    ensures { result ≡ vanishes n l s.now set }
-{
-    for t in 0..l {
-        if strip_blocks::sum_1(s, l, n, set, t) != 0 {
-            return false;
-        }
-    }
-    true
+    strip_blocks::starts_zero(strip_blocks::suited_sum::<16>(s, l, n, set, 0), l)
 }
 
 // The same in the way that suits the strips' length and the set.
 fn strip_vanishes(s: &[u8], l: usize, n: usize, set: u32) -> bool
-    requires { (l ≤ 65536) × (n ≤ 32) × (n * l ≤ length s.now) }
+    requires { (n ≤ 32) × (n * l ≤ length s.now) }
     ensures { result ≡ vanishes n l s.now set }
 {
-    if 1024 <= l {
-        return vanishes_few(s, l, n, set);
+    if l == 0 {
+        true
+    } else if l < 16 {
+        vanishes_blocks::<1, ByTest>(s, l, n, set)
+    } else if 1024 <= l {
+        vanishes_few(s, l, n, set)
+    } else if 128 <= l {
+        vanishes_blocks::<128, ByStep>(s, l, n, set)
+    } else if strip_blocks::is_sparse(set, n, l) {
+        vanishes_blocks::<16, ByStep>(s, l, n, set)
+    } else {
+        vanishes_blocks::<16, ByTest>(s, l, n, set)
     }
-    if 128 <= l {
-        return vanishes_long(s, l, n, set);
-    }
-    if 16 <= l {
-        if strip_blocks::is_sparse(set, n, l) {
-            return vanishes_sparse(s, l, n, set);
-        }
-        return vanishes_short(s, l, n, set);
-    }
-    vanishes_bytes(s, l, n, set)
 }
 
-// Whether it vanishes for every row of a basis. This is for strips shorter than 16 bytes: they are copied to
+// Whether it vanishes for every word of a basis. This is for strips shorter than 16 bytes: they are copied to
 // where bytes follow.
-fn all_narrow_vanish(s: &[u8], l: usize, n: usize, rows: Basis) -> bool
-    requires { (l < 16) × (n ≤ 32) × (n * l ≤ length s.now) × (rows.count ≤ 16) }
-    ensures { result ≡ all_vanish n l s.now (take rows.count rows.rows) }
+fn all_narrow_vanish(s: &[u8], l: usize, n: usize, words: &Basis) -> bool
+    requires { (l < 16) × (n ≤ 32) × (n * l ≤ length s.now) }
+    ensures { result ≡ all_vanish n l s.now words.now }
 {
     let mut local = [0u8; 512];
     strip_blocks::copy_first(&mut local, s, n * l);
-    let count = rows.count;
-    let sets = rows.rows;
-    for j in 0..count {
-        if !vanishes_narrow(&local, l, n, sets[j]) {
+    for word in words.words() {
+        if !vanishes_narrow(&local, l, n, *word) {
             return false;
         }
     }
     true
 }
 
-// Whether it vanishes for every row of a basis. Up to 3 bytes a strip is not worth a copy.
-pub fn all_vanish(s: &[u8], l: usize, n: usize, rows: Basis) -> bool
-    requires { (l ≤ 65536) × (n ≤ 32) × (n * l ≤ length s.now) × (rows.count ≤ 16) }
-    ensures { result ≡ all_vanish n l s.now (take rows.count rows.rows) }
+// Whether it vanishes for every word of a basis. Up to 3 bytes a strip is not worth a copy.
+pub fn all_vanish(s: &[u8], l: usize, n: usize, words: &Basis) -> bool
+    requires { (l ≤ 65536) × (n ≤ 32) × (n * l ≤ length s.now) }
+    ensures { result ≡ all_vanish n l s.now words.now }
 {
-    if l < 16 {
-        if 3 < l {
-            return all_narrow_vanish(s, l, n, rows);
-        }
+    if 3 < l && l < 16 {
+        return all_narrow_vanish(s, l, n, words);
     }
-    let count = rows.count;
-    let sets = rows.rows;
-    for j in 0..count {
-        if !strip_vanishes(s, l, n, sets[j]) {
+    for word in words.words() {
+        if !strip_vanishes(s, l, n, *word) {
             return false;
         }
     }

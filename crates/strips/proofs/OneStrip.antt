@@ -7,7 +7,7 @@ use Prim.Native.Nat.{ℕ, ◌+◌, ◌*◌, ◌/◌, ◌%◌, ◌^◌, ◌≤◌
 use native.Mathlib.Nat.{div-add-mod', mod-lt}
 use native.Mathlib.Omega.{arith}
 use lib.Dec.{T}
-use lib.ListN.{length, get_or, set as set'}
+use lib.ListN.{length, get_or}
 use Rattle.gf2.specs.Sets.{has, over}
 use Rattle.gf2.proofs.Tests.{below_or}
 use Rattle.gf2.proofs.Subsets.{power_in, power_out}
@@ -17,7 +17,7 @@ use Rattle.flat.specs.Strips.{byte_of}
 use Rattle.flat.specs.Repairs.{filled}
 use Rattle.flat.proofs.Lists.{length-tabulate, get_d_tabulate, length-put, put-before, put-new, put-after}
 use Rattle.flat.proofs.Positions.{strips-apart}
-use Rattle.strip_blocks.proofs.Runs.{Run, run_more, run_byte, run_all}
+use Rattle.strip_blocks.proofs.Runs.{Run, run_more, run_all}
 use Rattle.strip_dense.proofs.Patched.{disk-of, patched_all}
 
 module _ (n l set d : ℕ) (s₀ : List ℕ) where
@@ -47,11 +47,6 @@ module _ (n l set d : ℕ) (s₀ : List ℕ) where
         (length-tabulate w (λ t. over n set (byte_of l s (q + t))))
         (λ t u. get_d_tabulate w (λ t. over n set (byte_of l s (q + t))) t u ∙ strip-read s o (q + t) r (omega arith) (omega arith))
         (p ∙ ap (put s (d * l + q)) e)
-
-    -- one more byte
-    pub strip-byte : (s : List ℕ) (t v : ℕ) → StripTo t s → t < l → d * l + l ≤ length s₀ → v ≡ over n set (byte_of l s t)
-        → StripTo (t + 1) (set' s (d * l + t) v)
-    strip-byte s t v r h fits e = run_byte s₀ (d * l) strip_byte s t v r (omega arith) (e ∙ strip-read s t t r (omega arith) h)
 
   -- the stripe is filled where the strip is put in one go
   pub strip-put : (s new : List ℕ) → 0 < l → d * l + l ≤ length s₀ → length new ≡ l → ((t : ℕ) → t < l → get_or new t 0 ≡ strip_byte t)

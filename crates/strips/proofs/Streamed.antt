@@ -1,4 +1,4 @@
--- The strips of a set as streams: the places that `strip_blocks::members_of` answers, and what is written from them.
+-- The strips of a set as streams: the places that `strip_blocks::Members::of_set` answers, and what is written from them.
 -- Assumes nothing.
 use mathlib.Core.Path.{◌≡◌, ◌∙◌}
 use mathlib.Core.Logic.{◌≢◌}

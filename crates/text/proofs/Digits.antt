@@ -3,7 +3,7 @@
 use mathlib.Core.Path.{◌≡◌, refl, ap, ◌∙◌}
 use mathlib.Core.Logic.{⊎_elim}
 use mathlib.Core.List.{List, [], ◌∷◌, ◌++◌}
-use Prim.Native.Nat.{ℕ, zero, suc, ◌+◌, ◌/◌, ◌%◌, ◌^◌, ◌≤◌, ◌<◌, zero-le}
+use Prim.Native.Nat.{ℕ, zero, suc, ◌+◌, ◌*◌, ◌/◌, ◌%◌, ◌^◌, ◌≤◌, ◌<◌, zero-le}
 use native.Mathlib.Nat.{pow-succ'}
 use native.Mathlib.Omega.{arith}
 use lib.ListN.{length, length-append}
@@ -63,6 +63,18 @@ length_most (suc most) n h =
     ⊎_elim (λ s. omega (arith, length-short n s))
     (λ l. omega (arith, length-long n l, length_most most (n / 10) (omega (arith, pow-succ' 10 (suc most)))))
     (below_or n 10)
+
+pow_pos : (power : ℕ) → 1 ≤ 10 ^ power
+pow_pos zero = omega arith
+pow_pos (suc power) = omega (arith, pow-succ' 10 power, pow_pos power)
+
+-- exactly: one more than the power of ten below it
+pub length_power : (power n : ℕ) → 10 ^ power ≤ n → n < 10 * 10 ^ power → length (decimal n) ≡ suc power
+length_power zero n h l = length-short n (omega arith)
+length_power (suc power) n h l =
+    let e = pow-succ' 10 power in
+    let ten : 9 < n = omega (arith, e, pow_pos power) in
+    omega (arith, length-long n ten, length_power power (n / 10) (omega (arith, e)) (omega (arith, e)))
 
 -- a number of the machine has at most 20
 pub length-word : (n : ℕ) → n < 2 ^ 64 → length (decimal n) ≤ 20

@@ -1,5 +1,6 @@
 pub mod Digits
-pub mod Puts
+pub mod Written
 pub mod Pieces
+pub mod Pens
 pub mod Lengths
 pub mod Answers

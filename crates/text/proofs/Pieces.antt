@@ -1,4 +1,4 @@
--- Texts made of a piece for each number of a list: how long they are, and the piece that a turn of a loop adds.
+-- Texts made of a piece for each number of a list: how long they are, and the piece that the next number adds.
 -- Assumes nothing.
 use mathlib.Core.Path.{◌≡◌, refl, sym, ap, ◌∙◌}
 use mathlib.Core.List.{List, [], ◌∷◌, ◌++◌, append_assoc, append-nil}
@@ -6,15 +6,13 @@ use Prim.Native.Nat.{ℕ, ◌+◌, ◌*◌, ◌≤◌, ◌<◌}
 use native.Mathlib.Nat.{mul-suc}
 use native.Mathlib.Numerals.{add-one}
 use native.Mathlib.Omega.{arith}
-use lib.ListN.{length, get_or, take, drop, length-append, take-append-drop}
-use lib.Seq.{take-suc, take-length}
+use lib.ListN.{length, get_or, take, length-append}
+use lib.Seq.{take-suc}
 use Rattle.flat.specs.Lists.{each}
 use Rattle.flat.proofs.Members.{In, in_head, in_tail}
-use Rattle.text.specs.Places.{Put}
-use Rattle.text.proofs.Puts.{put-none, put_then, put-length}
 
 module _ (f : ℕ → List ℕ) where
-  each_append : (xs ys : List ℕ) → each f (xs ++ ys) ≡ each f xs ++ each f ys
+  pub each_append : (xs ys : List ℕ) → each f (xs ++ ys) ≡ each f xs ++ each f ys
   unfolding each
   each_append [] ys = refl
   each_append (x ∷ xs) ys = ap (λ (l : List ℕ). f x ++ l) (each_append xs ys) ∙ sym (append_assoc (f x) (each f xs) (each f ys))
@@ -50,34 +48,3 @@ module _ (f : ℕ → List ℕ) where
 
     pub length_more : length (each f (take (i + 1) xs)) ≡ length (each f (take i xs)) + length (f (get_or xs i 0))
     length_more = ap length each_more ∙ length-append (each f (take i xs)) (f (get_or xs i 0))
-
--- ---- a loop that puts a piece for each number
-
--- the first i pieces are put
-pub record Pieced (f : ℕ → List ℕ) (xs : List ℕ) (at : ℕ) (old new : List ℕ) (next i : ℕ) : Type 0 where
-  pub upto : i ≤ length xs
-  pub put : Put (each f (take i xs)) at old new next
-
-pub pieced_none : (f : ℕ → List ℕ) (xs : List ℕ) (at : ℕ) (old : List ℕ) → Pieced f xs at old old at 0
-pieced_none f xs at old = record { upto = omega arith; put = rw (each_none f) (put-none at old) }
-
-module _ {f : ℕ → List ℕ} {xs : List ℕ} {at : ℕ} {old new : List ℕ} {next i : ℕ} (p : Pieced f xs at old new next i) where
-  -- where all have room, so has the next one
-  pub pieced_room : i < length xs → at + length (each f xs) ≤ length old → next + length (f (get_or xs i 0)) ≤ length new
-  pieced_room h l =
-      let e : each f xs ≡ each f (take (i + 1) xs) ++ each f (drop (i + 1) xs) =
-      ap (each f) (sym (take-append-drop (i + 1) xs)) ∙ each_append f (take (i + 1) xs) (drop (i + 1) xs) in
-      omega (
-        arith,
-        p.put.place,
-        put-length p.put,
-        length_more f xs i h,
-        ap length e,
-        length-append (each f (take (i + 1) xs)) (each f (drop (i + 1) xs)),
-      )
-
-  pub pieced_more : {new' : List ℕ} {next' : ℕ} → i < length xs → Put (f (get_or xs i 0)) next new new' next' → Pieced f xs at old new' next' (i + 1)
-  pieced_more h q = record { upto = omega arith; put = rw (each_more f xs i h) (put_then p.put q) }
-
-  pub pieced_all : length xs ≤ i → Put (each f xs) at old new next
-  pieced_all h = let e : i ≡ length xs = omega (arith, p.upto) in rw (e, take-length) at p.put

@@ -3,11 +3,11 @@
 use mathlib.Core.Path.{◌≡◌, refl, ap, ap₂, ◌∙◌}
 use mathlib.Core.Bool.{Bool, true}
 use mathlib.Core.List.{List}
-use Prim.Native.Nat.{ℕ, ◌+◌, ◌%◌, ◌≤◌}
+use Prim.Native.Nat.{ℕ, ◌%◌, ◌≤◌}
 use lib.Dec.{T}
 use Rattle.std.specs.Prelude.{if◌then◌else◌}
 use Rattle.flat.specs.Lists.{Bytes}
-use Rattle.flat.specs.Cards.{Code, code}
+use Rattle.flat.specs.Cards.{Code, disks}
 use Rattle.flat.specs.Erasures.{fatal}
 use Rattle.flat.specs.Rebuilding.{agreeing, restored}
 use Rattle.flat.specs.Repairs.{filled, consistent, equation_among}
@@ -17,20 +17,17 @@ use Rattle.turning.specs.Turning.{turned, turned_back, disks_of}
 use Rattle.turning.proofs.Turned.{length_back, turned-reduced, back-reduced}
 use Rattle.turning.proofs.Sets.{disks-reduced}
 
-module _ (k m : ℕ) (columns : List ℕ) (L t S : ℕ) (stripe : List ℕ) where
-  abbrev C : Code
-  C = code k m columns
-
+module _ (C : Code) (L t S : ℕ) (stripe : List ℕ) where
   abbrev back : List ℕ
-  back = turned_back (k + m) L t stripe
+  back = turned_back (disks C) L t stripe
 
   pub turned-all : (T (fatal C S) → ⊥) → 1 ≤ L → Bytes back → (r : Bool) → r ≡ consistent C L S back → (after : List ℕ) → r ≡ true
-      → after ≡ (if r then turned (k + m) L t (filled (k + m) L (equation_among C S) S back) else stripe)
-      → after ≡ turned (k + m) L t (restored C L S back (agreeing C L S back))
+      → after ≡ (if r then turned (disks C) L t (filled (disks C) L (equation_among C S) S back) else stripe)
+      → after ≡ turned (disks C) L t (restored C L S back (agreeing C L S back))
   turned-all safe long bytes r e after told q =
       q ∙ rw told
-      (ap (turned (k + m) L t)
-      (all-restored k m columns L S back safe long bytes r e (filled (k + m) L (equation_among C S) S back) (length_back (k + m) L t stripe) told (rw told refl)))
+      (ap (turned (disks C) L t)
+      (all-restored C L S back safe long bytes r e (filled (disks C) L (equation_among C S) S back) (length_back (disks C) L t stripe) told (rw told refl)))
 
 -- ---- the turn of stripe r
 

@@ -1,3 +1,3 @@
 pub mod Named
-pub mod Answered
+pub mod Stripes
 pub mod Theorems

@@ -9,7 +9,7 @@ use native.Mathlib.Nat.{add-zero, div-add-mod'}
 use native.Mathlib.Numerals.{add-one}
 use native.Mathlib.Omega.{arith}
 use lib.Dec.{T, eqb}
-use lib.ListN.{length, get_or, set}
+use lib.ListN.{length, get_or, set, take}
 use Rattle.std.specs.Prelude.{if◌then◌else◌}
 use Rattle.gf2.specs.Sets.{has, ◌⊕◌, over}
 use Rattle.gf2.proofs.Tests.{dec, T-ext, eqb_in, eqb_out, eqb_sym, if_true, if_false}
@@ -24,10 +24,10 @@ use Rattle.flat.proofs.Quantifiers.{has-set}
 use Rattle.flat.proofs.Positions.{places, strip-within, strips-apart}
 use Rattle.flat.proofs.Words.{by-disk}
 use Rattle.strip_blocks.specs.Totals.{total}
-use Rattle.strip_blocks.proofs.Placed.{Placed, placed-none, placed_other, placed_skip, placed-more}
+use Rattle.strip_blocks.proofs.Placed.{Placed, placed-none, placed_other, placed_skip, placed-more, placed-length, placed-strips, placed-sums}
 use Rattle.strip_updates.specs.Changes.{from, share, shares, changed}
 use Rattle.strip_updates.proofs.Shares.{from_in, from_out, share_in, share_out}
-use Rattle.updating.specs.Updating.{change, updated}
+use Rattle.updating.specs.Updating.{change, updated, naming}
 use Rattle.updating.proofs.Rows.{row-has_data, row-has-parity}
 use Rattle.updater.specs.Names.{names}
 
@@ -88,12 +88,14 @@ module _ (C : Code) (d : ℕ) where
           ∙ zero-⊕ (if has (names C d) j then v else 0) ∙ ap (λ (b : Bool). if b then v else 0) (names-has j h ∙ sym (row-has-parity C d j h))
 
   -- where the list has the places of the naming parities
-  pub changed-updated : (L : ℕ) (at : List ℕ) (count : ℕ) (new stripe : List ℕ) → d < C.k → length stripe ≡ disks C * L
-      → ((f : ℕ → ℕ) → total count (λ i. f (get_or at i 0)) ≡ over C.m (names C d) (λ j. f ((C.k + j) * L)))
-      → changed (from 0 L) (d * L) at count new stripe ≡ updated C L d new stripe
+  pub changed_updated : (L : ℕ) (xs ys new stripe after : List ℕ) → d < C.k → length stripe ≡ disks C * L → ys ≡ xs
+      → ((f : ℕ → ℕ) → total (length xs) (λ i. f (get_or xs i 0)) ≡ over C.m (names C d) (λ j. f ((C.k + j) * L)))
+      → after ≡ changed (from 0 L) (d * L) ys (length ys) new stripe → after ≡ updated C L d new stripe
   unfolding changed updated change byte_of
-  changed-updated L at count new stripe l e same =
-      tabulate_cong (length stripe) (λ p. get_or stripe p 0 ⊕ shares (from 0 L) f (d * L) at count p)
+  changed_updated L xs ys new stripe after l e given same turn =
+      turn
+      ∙ ap (λ (at : List ℕ). changed (from 0 L) (d * L) at (length at) new stripe) given
+      ∙ tabulate_cong (length stripe) (λ p. get_or stripe p 0 ⊕ shares (from 0 L) f (d * L) xs (length xs) p)
       (λ p. if has (row C d) (p / L) then get_or stripe p 0 ⊕ f (p % L) else get_or stripe p 0)
       (λ p h. let q = places (disks C) L p (subst (λ (x : ℕ). p < x) e h) in
       ap (λ (x : ℕ). get_or stripe p 0 ⊕ x)
@@ -107,13 +109,24 @@ module _ (C : Code) (d : ℕ) where
       f : ℕ → ℕ
       f = change L d new stripe
 
--- ---- where the strip of a parity disk lies
+-- ---- where the strips of data disk d and of the parity disks lie
 
-pub parity-inside : (k m L x n : ℕ) → (j : ℕ) × (j < m) × (x ≡ (k + j) * L) → n ≡ (k + m) * L → x + L ≤ n
-parity-inside k m L x n p e = omega (arith, p.2, strip-within (k + p.0) (k + m) L (omega (arith, p.1)))
+module _ (C : Code) (d L n : ℕ) (size : n ≡ disks C * L) where
+  pub own_inside : d < C.k → d * L + L ≤ n
+  unfolding disks
+  own_inside h = omega (arith, size, strip-within d (disks C) L (omega arith))
 
-pub parity-apart : (k m d L x : ℕ) → (j : ℕ) × (j < m) × (x ≡ (k + j) * L) → d < k → d * L + L ≤ x
-parity-apart k m d L x p h = omega (arith, p.2, strip-within d (k + p.0) L (omega arith))
+  module _ (xs ys : List ℕ) (given : ys ≡ xs) (strips : (i : ℕ) → i < length xs → (j : ℕ) × (j < C.m) × (get_or xs i 0 ≡ (C.k + j) * L)) where
+    pub parities_inside : (i : ℕ) → i < length ys → get_or ys i 0 + L ≤ n
+    unfolding disks
+    parities_inside i h =
+        let p = strips i (omega (arith, ap length given)) in
+        omega (arith, ap (λ (at : List ℕ). get_or at i 0) given, p.2, size, strip-within (C.k + p.0) (disks C) L (omega (arith, p.1)))
+
+    pub parities_apart : d < C.k → (i : ℕ) → i < length ys → (get_or ys i 0 + L ≤ d * L) ⊎ (d * L + L ≤ get_or ys i 0)
+    parities_apart l i h =
+        let p = strips i (omega (arith, ap length given)) in
+        inr (omega (arith, ap (λ (at : List ℕ). get_or at i 0) given, p.2, strip-within d (C.k + p.0) L (omega arith)))
 
 -- ---- the list of the naming parities among the first j
 
@@ -125,18 +138,35 @@ module _ (C : Code) (d L : ℕ) where
   unfolding count_of
   named_none at e = (placed-none (names C d) C.m 16 (λ i. (C.k + i) * L) at e, refl)
 
-  module _ (j : ℕ) (at : List ℕ) (count : ℕ) (r : Named j at count) (l : j < C.m) where
-    pub named_more : C.m ≤ 16 → has (column C j) d ≡ true → Named (j + 1) (set at count ((C.k + j) * L)) (count + 1)
+  -- parity disk j is looked at: its place is written after those so far, and counted if it names the disk
+  module _ (j : ℕ) (at : List ℕ) (count : ℕ) (r : Named j at count) (l : j < C.m) (x : ℕ) (place : x ≡ (C.k + j) * L) where
+    pub named_more : C.m ≤ 16 → has (column C j) d ≡ true → Named (j + 1) (set at count x) (count + 1)
     unfolding count_of
-    named_more few e = (
+    named_more few e = rw place (
       placed-more (names C d) C.m 16 (λ i. (C.k + i) * L) j at count r.0 l few (names-has C d j l ∙ e),
-      rw (add-one j, e) (ap (λ (x : ℕ). x + 1) r.1),
+      rw (add-one j, e) (ap (λ (n : ℕ). n + 1) r.1),
     )
 
-    pub named_skip : has (column C j) d ≡ false → Named (j + 1) (set at count ((C.k + j) * L)) count
+    pub named_skip : has (column C j) d ≡ false → Named (j + 1) (set at count x) count
     unfolding count_of
     named_skip e = (
-      placed_skip (names C d) C.m 16 (λ i. (C.k + i) * L) j (set at count ((C.k + j) * L)) count
-          (placed_other (names C d) C.m 16 (λ i. (C.k + i) * L) j at count ((C.k + j) * L) r.0) (names-has C d j l ∙ e),
+      placed_skip (names C d) C.m 16 (λ i. (C.k + i) * L) j (set at count x) count
+          (placed_other (names C d) C.m 16 (λ i. (C.k + i) * L) j at count x r.0) (names-has C d j l ∙ e),
       rw (add-one j, e) (r.1 ∙ sym (add-zero (count_of j (λ i. has (column C i) d)))),
     )
+
+  -- all of them, by themselves
+  module _ (j : ℕ) (at : List ℕ) (count : ℕ) (r : Named j at count) (e : j ≡ C.m) (few : C.m ≤ 16) where
+    pub named_count : length (take count at) ≡ naming C d
+    unfolding naming
+    named_count =
+        placed-length (names C d) C.m 16 (λ i. (C.k + i) * L) j at count r.0 (omega arith) ∙ r.1
+        ∙ ap (λ (n : ℕ). count_of n (λ i. has (column C i) d)) e
+
+    pub named_strips : (i : ℕ) → i < length (take count at) → (x : ℕ) × (x < C.m) × (get_or (take count at) i 0 ≡ (C.k + x) * L)
+    named_strips i h = let p = placed-strips (names C d) C.m 16 (λ i. (C.k + i) * L) j at count r.0 (omega arith) i h in (p.0, p.1, p.3)
+
+    pub named_sums : (f : ℕ → ℕ) → total (length (take count at)) (λ i. f (get_or (take count at) i 0)) ≡ over C.m (names C d) (λ i. f ((C.k + i) * L))
+    named_sums f =
+        placed-sums (names C d) C.m 16 (λ i. (C.k + i) * L) j at count r.0 (omega arith) f
+        ∙ ap (λ (n : ℕ). over n (names C d) (λ i. f ((C.k + i) * L))) e

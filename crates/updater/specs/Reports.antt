@@ -1,17 +1,21 @@
--- The documents' number and values for each case of the answer of this crate.
+-- The documents' number and values for each case of the update's answer.
 -- Assumes nothing.
-use Rattle.std.specs.Prelude.{[], ◌∷◌}
+use Rattle.std.specs.Prelude.{[], ◌∷◌, ℕ, Result, Ok, Err}
 use Rattle.flat.specs.Faults.{Report, accepted, refused}
 use Rattle.card.specs.Reports.{fault_report}
-use Rattle.updater.specs.declared.Updated.{Updated}
-use Rattle.updater.specs.declared.Updated.TheVariants as updated
+use Rattle.updater.specs.declared.UpdateError.{UpdateError}
+use Rattle.updater.specs.declared.UpdateError.TheVariants as error
 
--- the update
-abbrev pub report : Updated → Report
-report (updated.Strips n) = accepted (n ∷ [])
-report (updated.Card f) = fault_report f
-report updated.StripLength = refused 6 []
-report updated.NoDisk = refused 9 []
-report updated.ParityDisk = refused 18 []
-report updated.StripeLength = refused 7 []
-report updated.NewLength = refused 19 []
+-- why nothing was rewritten
+abbrev pub error_report : UpdateError → Report
+error_report (error.Card f) = fault_report f
+error_report error.StripLength = refused 6 []
+error_report error.NoDisk = refused 9 []
+error_report error.ParityDisk = refused 18 []
+error_report error.StripeLength = refused 7 []
+error_report error.NewLength = refused 19 []
+
+-- the update: how many strips were rewritten, or why none
+abbrev pub report : Result ℕ UpdateError → Report
+report (Ok n) = accepted (n ∷ [])
+report (Err e) = error_report e

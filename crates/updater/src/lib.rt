@@ -5,24 +5,23 @@
 // input, and what is left in the stripe, is said in updating/specs/Faults.antt.
 #![tactic(auto)]
 
-ghost use Rattle.std.specs.Prelude.{◌≡◌, ℕ, ◌+◌, ◌*◌, ◌<◌, ◌≤◌, length, get_or};
-ghost use Rattle.gf2.specs.Sets.{over};
-ghost use Rattle.flat.specs.Cards.{code_in, card_of};
-ghost use Rattle.flat.specs.Faults.{unless_refused};
-ghost use Rattle.card.specs.Columns.{Columns};
-ghost use Rattle.strip_blocks.specs.Totals.{total};
+ghost use Rattle.std.specs.Prelude.{◌≡◌, ◌∷◌, [], ◌+◌, ◌*◌, ◌<◌, ◌≤◌, length, IfErr, OnOk};
+ghost use Rattle.flat.specs.Cards.{card_of, disks};
+ghost use Rattle.flat.specs.Faults.{accepted};
 ghost use Rattle.updating.specs.Updating.{updated, naming};
 ghost use Rattle.updating.specs.Faults.{update_tests, update_report, update_stripe};
-ghost use Rattle.updater.specs.Names.{names};
-ghost use Rattle.updater.specs.Reports.{report};
+ghost use Rattle.updater.specs.declared.UpdateError.TheVariants.{Card};
+ghost use Rattle.updater.specs.Reports.{error_report, report};
 
-use card::{CardCheck, CardFault, Edition};
+mod parities;
 
-// The update's answer: how many strips were rewritten, the card's fault, a strip length that is none, a disk
-// that the code lacks, a parity disk, a stripe of another length, or a new strip of another length.
-#[derive(Clone, Copy)]
-pub enum Updated {
-    Strips(usize),
+use crate::parities::NamingParities;
+use card::{CardFault, Code, Edition};
+
+// Why nothing was rewritten: the card's fault, a strip length that is none, a disk that the code lacks, a
+// parity disk, a stripe of another length, or a new strip of another length.
+#[derive(Clone, Copy, Debug, PartialEq, Eq)]
+pub enum UpdateError {
     Card(CardFault),
     StripLength,
     NoDisk,
@@ -31,74 +30,62 @@ pub enum Updated {
     NewLength,
 }
 
-// Where the strips of the parity disks start that name a data disk, into a list, and how many there are. What
-// stands after them means nothing.
-fn naming(at: &mut [u32; 16], columns: &[u8], k: usize, m: usize, l: usize, disk: usize) -> usize
-    requires { (length at.old ≡ 16) × Columns k m columns.now × (disk < k) × (l ≤ 65536) }
-    ensures value { (result ≡ naming (code_in k m columns.now) disk) × (length at.new ≡ 16) }
-    ensures by_index { (i : ℕ) → i < result → (j : ℕ) × (j < m) × (get_or at.new i 0 ≡ (k + j) * l) }
-    ensures by_index_2 { (f : ℕ → ℕ) → total result (λ i. f (get_or at.new i 0)) ≡ over m (names (code_in k m columns.now) disk) (λ j. f ((k + j) * l)) }
-{
-    let mut count = 0;
-    for j in 0..m {
-        at[count] = ((k + j) * l) as u32;
-        if gf2::has(card::column(columns, j) as u32, disk as u32) {
-            count += 1;
-        }
+impl From<CardFault> for UpdateError {
+    ghost from_gives = { λ fault error. error ≡ Card fault };
+
+    fn from(fault: CardFault) -> UpdateError {
+        UpdateError::Card(fault)
     }
-    count
 }
 
-// The new strip and the parities that name its disk, on the columns of an accepted card; how many parities.
-fn rewrite(columns: &[u8], k: usize, m: usize, stripe: &mut [u8], disk: usize, new: &[u8]) -> usize
-    requires columns { Columns k m columns.now × (disk < k) }
-    requires in_bounds { (1 ≤ length new.now) × (length new.now ≤ 65536) × (length stripe.old ≡ (k + m) * length new.now) }
-    ensures value { result ≡ naming (code_in k m columns.now) disk }
-    ensures stripe_after { stripe.new ≡ updated (code_in k m columns.now) (length new.now) disk new.now stripe.old }
+// Whether a new strip of new bytes may be written for a disk of a stripe of size bytes, in strips of l bytes:
+// the tests stand in the document's order.
+#[tactic(auto, unfolding(updating::specs::Faults::update_tests))]
+fn tests(code: &Code, l: usize, size: usize, disk: usize, new: usize) -> Result<(), UpdateError>
+    ensures refused { IfErr result (λ error. error_report error ≡ update_tests code.now l size disk new) }
+    ensures accepted { OnOk result (accepted ((1 + naming code.now disk) ∷ []) ≡ update_tests code.now l size disk new) }
+    ensures disk { OnOk result (disk < code.now.k) }
+    ensures lengths { OnOk result ((1 ≤ l) × (l ≤ 65536) × (size ≡ disks code.now * l) × (new ≡ l)) }
+{
+    if !card::length_ok(l) {
+        return Err(UpdateError::StripLength);
+    }
+    if code.n() <= disk {
+        return Err(UpdateError::NoDisk);
+    }
+    if code.k() <= disk {
+        return Err(UpdateError::ParityDisk);
+    }
+    if size != code.n() * l {
+        return Err(UpdateError::StripeLength);
+    }
+    if new != l {
+        return Err(UpdateError::NewLength);
+    }
+    Ok(())
+}
+
+// The new strip and the parities that name its disk; how many parities.
+#[tactic(auto, using(crate::proofs::Named::own_inside))]
+fn rewrite(code: &Code, stripe: &mut [u8], disk: usize, new: &[u8]) -> usize
+    requires disk { disk < code.now.k }
+    requires lengths { (1 ≤ length new.now) × (length new.now ≤ 65536) × (length stripe.old ≡ disks code.now * length new.now) }
+    ensures count { result ≡ naming code.now disk }
+    ensures bound { result ≤ 16 }
+    ensures stripe_after { stripe.new ≡ updated code.now (length new.now) disk new.now stripe.old }
 {
     let l = new.len();
-    let mut at = [0u32; 16];
-    let count = naming(&mut at, columns, k, m, l, disk);
-    strip_updates::update(stripe, disk * l, &at, count, new);
-    count
-}
-
-// The update, on the columns of an accepted card: no byte is written before every refusal is decided.
-fn update_columns(
-    columns: &[u8],
-    k: usize,
-    m: usize,
-    l: usize,
-    stripe: &mut [u8],
-    disk: usize,
-    new: &[u8],
-) -> Updated
-    requires { Columns k m columns.now }
-    ensures result_value { report result ≡ update_tests (code_in k m columns.now) l (length stripe.old) disk (length new.now) }
-    ensures stripe_after { stripe.new ≡ unless_refused (report result) (updated (code_in k m columns.now) l disk new.now stripe.old) stripe.old }
-{
-    let n = k + m;
-    if !card::length_ok(l) {
-        return Updated::StripLength;
-    }
-    if n <= disk {
-        return Updated::NoDisk;
-    }
-    if k <= disk {
-        return Updated::ParityDisk;
-    }
-    if stripe.len() != n * l {
-        return Updated::StripeLength;
-    }
-    if new.len() != l {
-        return Updated::NewLength;
-    }
-    let count = rewrite(columns, k, m, stripe, disk, new);
-    Updated::Strips(1 + count)
+    let mut naming = NamingParities::new();
+    naming.list(code, disk, l);
+    let places = naming.places();
+    strip_updates::update(stripe, disk * l, places, new);
+    places.len()
 }
 
 // The update: the strip of the data disk becomes the new one, and each byte of the parities that name the
-// disk is XORed with the old and the new data byte.
+// disk is XORed with the old and the new data byte. It answers how many strips were rewritten. No byte is
+// written before every refusal is decided.
+#[tactic(auto, using(card::proofs::Callers::good_with, card::proofs::Callers::bad_card), unfolding(updating::specs::Faults::update_report))]
 pub fn update(
     edition: Edition,
     card: &[u8],
@@ -106,20 +93,12 @@ pub fn update(
     stripe: &mut [u8],
     disk: usize,
     new: &[u8],
-) -> Updated
+) -> Result<usize, UpdateError>
     ensures result_value { report result ≡ update_report (card_of edition card.now) l (length stripe.old) disk (length new.now) }
     ensures stripe_after { stripe.new ≡ update_stripe (card_of edition card.now) l stripe.old disk new.now }
 {
-    match card::check(edition, card) {
-        CardCheck::Bad(fault) => Updated::Card(fault),
-        CardCheck::Good { k, m } => update_columns(
-            card::columns(edition, card),
-            k,
-            m,
-            l,
-            stripe,
-            disk,
-            new,
-        ),
-    }
+    let code = card::check(edition, card)?;
+    tests(&code, l, stripe.len(), disk, new.len())?;
+    let count = rewrite(&code, stripe, disk, new);
+    Ok(1 + count)
 }

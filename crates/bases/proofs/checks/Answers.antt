@@ -1,63 +1,22 @@
--- `bases::checks` meets its contract: after j turns the first j checks stand in their places, and zeros behind them.
+-- `bases::checks` meets its contract: after j turns the first j checks are there.
 -- Assumes nothing.
-use mathlib.Core.Path.{◌≡◌, refl, sym, ap, ◌∙◌, subst}
-use Prim.Native.Nat.{ℕ, ◌+◌, ◌^◌, ◌≤◌, ◌<◌}
-use native.Mathlib.Nat.{lt_of_lt_of_le}
+use mathlib.Core.Path.{ap, ◌∙◌}
 use native.Mathlib.Omega.{arith}
-use lib.ListN.{take}
-use lib.Pow.{pow_mono}
-use Rattle.gf2.proofs.Bits.{one_shifted}
-use Rattle.gf2.proofs.Made.{add_fits}
-use Rattle.flat.specs.Lists.{padded, tabulate}
-use Rattle.flat.specs.Cards.{code_in}
-use Rattle.flat.specs.Checks.{check}
-use Rattle.flat.specs.Spans.{checks}
-use Rattle.flat.proofs.Lists.{fill_none, fill_more, length-tabulate, take-padded}
-use Rattle.bases.proofs.Adding.{check-sum}
-use borrow.Author.Rules.{rules}
+use lib.ListN.{length}
+use Rattle.bases.proofs.Adding.{none_yet, one_more, length-table, all_checks, count_checks}
 use Rattle.bases.proofs.checks.Goals as goal
 
 pub loop-j-init : goal.loop-j-init
-loop-j-init c = (omega arith, refl, fill_none 16 _)
+loop-j-init c = none_yet _ _ c.new-checks.ensures
 
-pub overflow_add-out-in-loop-j : goal.overflow_add-out-in-loop-j
-overflow_add-out-in-loop-j c =
-    let k_of : ℕ =
-    c.args.k in
-    let jOf : ℕ =
-    c.loop-j.j in
-    let small : c.column.result < 2 ^ k_of =
-    subst (λ (x : ℕ). x < 2 ^ k_of) (sym c.column.ensures) (c.requires.5 (jOf) (omega arith)) in
-    let h : k_of + jOf < 32 = omega arith in
-    record {
-      fits =
-          rw (one_shifted (k_of + jOf) h)
-          (add_fits 32 (k_of + jOf) c.column.result (lt_of_lt_of_le (small) (pow_mono (let z : k_of ≤ k_of + jOf = omega arith in z))) h);
-    }
+pub push-requires : goal.push-requires
+push-requires c = let e = c.m-j-end.ensures in omega (arith, e.value, e.legal.3, length-table _ _ _ c.loop-j.invariant)
 
 pub loop-j-preserved : goal.loop-j-preserved
-loop-j-preserved c =
-    let k_of : ℕ =
-    c.args.k in
-    let jOf : ℕ =
-    c.loop-j.j in
-    let h : k_of + jOf < 32 = omega arith in
-    let l = c.loop-j in
-    let a = c.args in
-    let v : c.column.result + 2 ^ (k_of + jOf) ≡ check (code_in a.k a.m a.columns.now) (jOf) =
-    ap (λ (x : ℕ). x + 2 ^ (k_of + jOf)) c.column.ensures
-    ∙ check-sum a.k a.m (jOf) a.columns.now (omega arith) (c.requires.5 (jOf) (omega arith)) in (
-      omega arith,
-      search rules,
-      fill_more 16 (jOf) _ (check (code_in a.k a.m a.columns.now)) l.out (omega arith) l.invariant.2
-          (ap (λ (x : ℕ). c.column.result + x) (one_shifted (k_of + jOf) h) ∙ v),
-    )
+loop-j-preserved c = c.push.ensures ∙ one_more _ _ _ _ c.loop-j.invariant c.check.ensures
 
 pub returns : goal.returns
-unfolding checks
 returns c =
-    let l = c.loop-j in
-    let a = c.args in
-    let f = check (code_in a.k a.m a.columns.now) in
-    let e : l.j ≡ a.m = omega arith in
-    (refl, ap (take a.m) (l.invariant.2 ∙ ap (λ (n : ℕ). padded 16 (tabulate n f)) e) ∙ take-padded 16 a.m (tabulate a.m f) (length-tabulate a.m f))
+    let e = c.m-j-end.ensures in
+    let whole = c.loop-j.invariant ∙ all_checks _ _ (omega (arith, e.value)) in
+    record { value = whole; count = ap length whole ∙ count_checks _; legal = e.legal }

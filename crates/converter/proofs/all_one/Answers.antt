@@ -1,24 +1,15 @@
--- `converter::all_one` meets its contract: what is left of the wears is all 1 exactly where they are.
--- Assumes nothing.
-use mathlib.Core.Path.{refl}
-use native.Mathlib.Omega.{arith}
-use Rattle.converter.proofs.Answered.{ones-more, ones_other, ones-all}
+-- `converter::all_one` meets its contract. Assumes nothing.
+use mathlib.Core.Path.{◌∙◌}
+use borrow.Author.Rules.{rules}
+use borrow.Author.Tests.{tests}
+use lib.Dec.{eqb}
+use Rattle.std.proofs.lemmas.Iterator.{YieldsList-from_slice}
+use Rattle.std.proofs.lemmas.Iterator.Search.{all_from_yields_List}
+use Rattle.converter.proofs.Answered.{all_tested}
 use Rattle.converter.proofs.all_one.Goals as goal
 
-pub loop-i-init : goal.loop-i-init
-loop-i-init c = (omega arith, refl, refl)
-
-pub returns-then-wears-i-ne1 : goal.returns-then-wears-i-ne1
-returns-then-wears-i-ne1 c =
-    let ws = c.args.wears.now in
-    let l = c.loop-i in
-    ones_other ws l.i (omega arith) (λ e. omega (arith, e, c.if-wears-i-ne1.true)) l.invariant.2
-
-pub loop-i-preserved : goal.loop-i-preserved
-loop-i-preserved c =
-    let ws = c.args.wears.now in
-    let l = c.loop-i in
-    (omega arith, l.invariant.1, ones-more ws l.i (omega arith) (omega arith) l.invariant.2)
-
 pub returns : goal.returns
-returns c = let l = c.loop-i in ones-all _ l.i (omega arith) l.invariant.2
+returns c =
+    let ws = c.args.wears.now in
+    all_from_yields_List (λ w. eqb w 1) _ _ c.all.result c.all.ensures.ran (YieldsList-from_slice ws c.iter.ensures.rest) (λ x b q k. search (rules, tests))
+    ∙ all_tested ws

@@ -1,18 +1,18 @@
--- `copies::copy` meets its contract: a copy is made byte by byte.
+-- `copies::copy` meets its contract: what stands before the bytes and after them stays.
 -- Assumes nothing.
-use mathlib.Core.Path.{◌≡◌, refl}
+use mathlib.Core.Path.{◌≡◌}
+use mathlib.Core.List.{append_assoc}
+use Prim.Native.Nat.{◌+◌, ◌-◌}
+use native.Mathlib.Omega.{arith}
 use lib.ListN.{length}
-use Rattle.strip_blocks.proofs.Loops.{copied_none, copied_more, copied_all}
-use borrow.Author.Rules.{rules}
+use Rattle.std.proofs.lemmas.List.{drop-drop}
+use Rattle.flat.specs.Lists.{put}
 use Rattle.copies.proofs.copy.Goals as goal
 
-pub loop-t-init : goal.loop-t-init
-loop-t-init c = (search rules, search rules, copied_none _ _ _)
-
-pub loop-t-preserved : goal.loop-t-preserved
-loop-t-preserved c = (search rules, search rules, copied_more _ _ _ _ _ _ c.loop-t.invariant.2 (search rules) (search rules) refl)
-
 pub returns : goal.returns
+unfolding put
 returns c =
-    let e : c.loop-t.t ≡ length c.args.new.now = search rules in
-    copied_all _ _ _ _ _ c.loop-t.invariant.2 e
+    let a = c.args in
+    let n = length a.new.now in
+    let part : a.at + n - a.at ≡ n = omega arith in
+    rw (part, c.copy_from_slice.ensures.after) (simp (drop-drop, append_assoc))

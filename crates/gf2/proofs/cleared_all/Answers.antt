@@ -1,15 +1,26 @@
--- `gf2::cleared_all` meets its contract. The loop has mapped the function over the first i rows.
+-- `gf2::cleared_all` meets its contract. The loop has mapped the function over the rows before.
 -- Assumes nothing.
-use mathlib.Core.Path.{refl}
-use borrow.Author.Rules.{rules}
-use Rattle.gf2.proofs.Loops.{mapped-step, mapped_end}
+use Rattle.std.proofs.Common.{◌≡◌, ◌∙◌, arith, rules, length, length-set, append-nil}
+use Rattle.std.proofs.lemmas.List.{get_or_default, take_all, drop_all}
+use Rattle.std.proofs.lemmas.List.Edits.{map_over_more}
+use Rattle.gf2.specs.Within.{clear}
 use Rattle.gf2.proofs.cleared_all.Goals as goal
 
-pub loop-i-init : goal.loop-i-init
-loop-i-init c = (search rules, search rules, refl)
-
-pub loop-i-preserved : goal.loop-i-preserved
-loop-i-preserved c = (search rules, search rules, mapped-step _ _ _ _ _ (search rules) c.loop-i.invariant.2 c.cleared.ensures)
+pub loop-row-preserved : goal.loop-row-preserved
+loop-row-preserved c =
+    let at = c.loop-row in
+    let a = c.args in
+    record {
+      sixteen = rw length-set at.invariant.sixteen;
+      before = rw c.cleared.ensures
+          (map_over_more (clear a.d a.b) a.rows at.row-items at.row-index _ (search rules) at.invariant.before
+          (get_or_default at.row-items at.row-index 0 _ (search rules)));
+    }
 
 pub returns : goal.returns
-returns c = mapped_end _ c.loop-i.i _ _ c.loop-i.invariant.2 (search rules)
+returns c =
+    let at = c.loop-row in
+    let a = c.args in
+    let e : length a.rows ≡ 16 = search rules in
+    at.invariant.before
+    ∙ rw (drop_all at.row-index a.rows (omega arith), take_all at.row-index a.rows (omega arith), append-nil)

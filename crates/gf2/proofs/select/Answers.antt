@@ -1,17 +1,18 @@
 -- `gf2::select` meets its contract. The loop has summed the first i rows.
 -- Assumes nothing.
-use mathlib.Core.Path.{refl}
-use borrow.Author.Rules.{rules}
+use Rattle.std.proofs.Common.{refl, rules, ◌≡◌, arith, length}
 use Rattle.gf2.specs.Sets.{over}
 use Rattle.gf2.proofs.Loops.{over-step, select_end}
 use Rattle.gf2.proofs.select.Goals as goal
 
 pub loop-i-init : goal.loop-i-init
 unfolding over
-loop-i-init c = (search rules, refl)
+loop-i-init c = refl
 
 pub loop-i-preserved : goal.loop-i-preserved
-loop-i-preserved c = (search rules, search (rules, over-step))
+loop-i-preserved c = search (rules, over-step)
 
 pub returns : goal.returns
-returns c = select_end _ _ _ _ c.loop-i.invariant.1 (search rules)
+returns c =
+    let e : length c.args.rows ≡ 16 = search rules in
+    select_end c.loop-i.i _ _ _ c.loop-i.invariant (omega arith)

@@ -1,26 +1,18 @@
--- `likeness::rearranged` meets its contract: each of the columns gone through stands as often in both.
+-- `likeness::rearranged` meets its contract: the columns are tested one after the other.
 -- Assumes nothing.
-use mathlib.Core.Path.{◌≡◌, sym, ◌∙◌, subst}
-use Prim.Native.Nat.{ℕ}
+use mathlib.Core.Path.{refl}
 use native.Mathlib.Omega.{arith}
-use lib.Dec.{T}
-use Rattle.gf2.proofs.Tests.{T_true}
-use Rattle.likeness.proofs.Counted.{stand_as_often, often-none, often-more, often_fails, stand_rearranged}
+use borrow.Author.Rules.{rules}
+use borrow.Author.Tests.{tests}
+use Rattle.std.proofs.lemmas.Iterator.{YieldsList-from_range}
+use Rattle.std.proofs.lemmas.Iterator.Search.{all_from_yields_List}
+use Rattle.likeness.proofs.Counted.{same, told, decided}
 use Rattle.likeness.proofs.rearranged.Goals as goal
 
-pub loop-j-init : goal.loop-j-init
-loop-j-init c = (omega arith, often-none _ _ _)
-
-pub returns-then-balance-ne-LEVEL : goal.returns-then-balance-ne-LEVEL
-returns-then-balance-ne-LEVEL c = λ k. often_fails _ _ _ _ _ _ c.column.ensures c.balance.ensures _ (omega arith) (λ e. omega (arith, e, c.if-balance-ne-LEVEL.true)) ∙ stand_rearranged k _ _ _
-
-pub loop-j-preserved : goal.loop-j-preserved
-loop-j-preserved c =
-    let l = c.loop-j in
-    (omega arith, often-more _ _ _ _ _ _ c.column.ensures c.balance.ensures l.invariant.1 (omega arith))
-
 pub returns : goal.returns
-returns c = λ k. let l = c.loop-j in
+returns c =
     let a = c.args in
-    let e : l.j ≡ a.m = omega arith in
-    sym (T_true (subst (λ (j : ℕ). T (stand_as_often j a.m a.first.now a.second.now)) e l.invariant.1)) ∙ stand_rearranged k _ _ _
+    let m = c.m.result in
+    decided _ _ _ _ c.m.ensures.value c.requires
+    (all_from_yields_List (same a.first.now a.second.now) _ _ c.all.result c.all.ensures.ran (YieldsList-from_range 0 m m refl (omega arith))
+    (λ x b q k. search (rules, tests, told)))

@@ -17,7 +17,12 @@ use Rattle.minimal_words.proofs.minimal.Goals as goal
 pub loop-rows-init : goal.loop-rows-init
 loop-rows-init c =
     let p = c.requires in
-    (p.x_nonzero.0, lt_of_lt_of_le p.x_nonzero.1 (pow_mono p.count_bound.0), search rules, loop_start _ _ _ _ _ p.count_bound.1.1 p.x_nonzero.1 p.x_nonzero.2)
+    let all = c.rows-rows.ensures in (
+      p.selected.0,
+      lt_of_lt_of_le p.selected.1 (pow_mono all.bound),
+      search rules,
+      loop_start _ _ _ _ _ all.words p.systematic.1 p.selected.1 p.selected.2,
+    )
 
 pub returns-then-next-eq0 : goal.returns-then-next-eq0
 returns-then-next-eq0 c =
@@ -25,7 +30,7 @@ returns-then-next-eq0 c =
     let p = c.requires in
     let low = c.lowest-i.ensures in
     loop_last _ _ _ at.rows at.invariant.0 (rw at.invariant.2 at.invariant.1) at.invariant.3 (sym (next-is at.left _ low.0 low.1) ∙ c.if-next-eq0.true)
-    ∙ loop_answer _ _ _ _ _ p.count_bound.1.1 p.x_nonzero.1 p.x_nonzero.2
+    ∙ loop_answer _ _ _ _ _ c.rows-rows.ensures.words p.systematic.1 p.selected.1 p.selected.2
 
 pub bounds-rows-i : goal.bounds-rows-i
 bounds-rows-i c =
@@ -40,7 +45,7 @@ returns-then-inside c =
     loop_kept _ _ _ at.rows at.invariant.0 (rw at.invariant.2 at.invariant.1) at.invariant.3
     (λ e. c.if-next-eq0.false (next-is at.left _ low.0 low.1 ∙ e))
     (rw (← low.0) (true-T (sym c.inside.ensures ∙ c.if-inside.true)))
-    ∙ loop_answer _ _ _ _ _ p.count_bound.1.1 p.x_nonzero.1 p.x_nonzero.2
+    ∙ loop_answer _ _ _ _ _ c.rows-rows.ensures.words p.systematic.1 p.selected.1 p.selected.2
 
 pub lowest-requires : goal.lowest-requires
 lowest-requires c = c.if-next-eq0.false
@@ -56,7 +61,7 @@ returns-then-next-lowest c =
     (λ q. c.if-next-eq0.false (next ∙ q))
     (sym next ∙ c.if-next-lowest.true ∙ one_shifted _ last.1 ∙ ap (λ (y : ℕ). 2 ^ y) (last.0 ∙ ap lowest next))
     (rw (← low.0) (false-T (sym c.inside.ensures ∙ c.if-inside.false)))
-    ∙ loop_answer _ _ _ _ _ p.count_bound.1.1 p.x_nonzero.1 p.x_nonzero.2
+    ∙ loop_answer _ _ _ _ _ c.rows-rows.ensures.words p.systematic.1 p.selected.1 p.selected.2
 
 pub lowest-requires-in-loop-rows : goal.lowest-requires-in-loop-rows
 lowest-requires-in-loop-rows c =

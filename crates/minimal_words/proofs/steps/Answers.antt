@@ -1,31 +1,36 @@
--- `minimal_words::steps` meets its contract: the first t places are filled, and the sum is that of the rows before t.
+-- `minimal_words::steps` meets its contract: the rows before have their steps in their places, and the sum is that of the rows before.
 -- Assumes nothing.
-use mathlib.Core.Path.{◌≡◌, refl, sym, ap, ◌∙◌}
-use Prim.Native.Nat.{ℕ}
-use native.Mathlib.Omega.{arith}
-use borrow.Author.Rules.{rules}
-use lib.ListN.{take}
-use lib.Seq.{take_all}
-use Rattle.flat.specs.Lists.{padded, tabulate}
-use Rattle.flat.proofs.Lists.{length-tabulate, take-padded, fill_none, fill_more}
+use Rattle.std.proofs.Common.{◌≡◌, ◌<◌, ◌∙◌, ap, arith, rules, length, length-set, append-nil, bit_xor}
+use Rattle.std.proofs.lemmas.List.{drop_all}
+use Rattle.flat.specs.Lists.{tabulate}
 use Rattle.minimal_words.specs.Listed.{step_of}
-use Rattle.minimal_words.proofs.Stepping.{steps-none, step-next}
+use Rattle.minimal_words.proofs.Stepping.{steps-none, step-next, place-next, place_more}
 use Rattle.minimal_words.proofs.steps.Goals as goal
 
-pub loop-t-init : goal.loop-t-init
-loop-t-init c = (omega arith, search rules, refl, fill_none 16 _, steps-none _)
+pub loop-row-init : goal.loop-row-init
+unfolding tabulate
+loop-row-init c = record { sixteen = search rules; before = search rules; sum = steps-none _ }
 
-pub loop-t-preserved : goal.loop-t-preserved
+pub loop-row-preserved : goal.loop-row-preserved
 unfolding step_of
-loop-t-preserved c =
-    let l = c.loop-t in
-    let e = step-next c.args.rows l.t l.sum (omega (arith, l.invariant.1)) l.invariant.4 in
-    (omega arith, l.invariant.1, search rules, fill_more 16 l.t _ _ l.out (omega arith) l.invariant.3 e, e)
+loop-row-preserved c =
+    let at = c.loop-row in
+    let rows = c.args.rows in
+    let l : at.row-index < length rows = search rules in
+    let e =
+    ap (bit_xor at.sum) (place-next (step_of rows) rows at.row-items at.row-index l at.invariant.before)
+    ∙ step-next rows at.row-index at.sum l at.invariant.sum in
+    record {
+      sixteen = rw length-set at.invariant.sixteen;
+      before = place_more (step_of rows) rows at.row-items at.row-index l at.invariant.before _ e;
+      sum = e;
+    }
 
 pub returns : goal.returns
 returns c =
-    let l = c.loop-t in
-    let f = step_of c.args.rows in
-    let e : l.t ≡ 16 = omega arith in
-    sym (take_all 16 l.out (omega (arith, l.invariant.2))) ∙ ap (take 16) (l.invariant.3 ∙ ap (λ (n : ℕ). padded 16 (tabulate n f)) e)
-    ∙ take-padded 16 16 (tabulate 16 f) (length-tabulate 16 f)
+    let at = c.loop-row in
+    let rows = c.args.rows in
+    let e : length rows ≡ 16 = search rules in
+    let n : at.row-index ≡ 16 = omega arith in
+    at.invariant.before
+    ∙ rw (drop_all at.row-index rows (omega arith), append-nil, n)

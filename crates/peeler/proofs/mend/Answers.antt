@@ -10,14 +10,14 @@ use Rattle.gf2.proofs.Subsets.{member_below}
 use Rattle.flat.proofs.Positions.{filled_cong}
 use Rattle.peeler.proofs.mend.Goals as goal
 
-pub fill-requires : goal.fill-requires
-fill-requires c =
-    let at : (d : ℕ) → T (has c.args.disk d) → get_or (replicate 32 c.args.others) d 0 ≡ c.args.others =
-    λ d t. get_or-replicate 32 d c.args.others 0 (member_below 32 c.args.disk d (search rules) t) in
-    record { le_l = search rules; by_index = λ d i t l u. c.requires.by_index i (subst (λ (E : ℕ). T (has E i)) (at d t) u) }
+pub fill-requires-clause-by_index : goal.fill-requires-clause-by_index
+fill-requires-clause-by_index c =
+    let at : (d : ℕ) → T (has c.args.step.disk d) → get_or (replicate 32 c.args.step.others) d 0 ≡ c.args.step.others =
+    λ d t. get_or-replicate 32 d c.args.step.others 0 (member_below 32 c.args.step.disk d (search rules) t) in
+    λ d i t l u. c.requires.apart i (subst (λ (E : ℕ). T (has E i)) (at d t) u)
 
 pub returns : goal.returns
 returns c =
-    let at : (d : ℕ) → T (has c.args.disk d) → get_or (replicate 32 c.args.others) d 0 ≡ c.args.others =
-    λ d t. get_or-replicate 32 d c.args.others 0 (member_below 32 c.args.disk d (search rules) t) in
-    c.fill.ensures ∙ filled_cong _ _ _ (λ d. c.args.others) _ _ (at)
+    let at : (d : ℕ) → T (has c.args.step.disk d) → get_or (replicate 32 c.args.step.others) d 0 ≡ c.args.step.others =
+    λ d t. get_or-replicate 32 d c.args.step.others 0 (member_below 32 c.args.step.disk d (search rules) t) in
+    c.fill.ensures ∙ filled_cong _ _ _ (λ d. c.args.step.others) _ _ (at)

@@ -1,77 +1,53 @@
 -- `peeler::peel` meets its contract: what is still to be peeled, with the steps made, is the whole.
 -- Assumes nothing.
 use mathlib.Core.Path.{◌≡◌, sym, ap, ◌∙◌}
-use mathlib.Core.List.{List}
-use Prim.Native.Nat.{ℕ}
-use native.Mathlib.Omega.{arith}
+use Prim.Native.Nat.{ℕ, ◌*◌}
 use borrow.Author.Rules.{rules}
-use Rattle.gf2.specs.Sets.{◌∖◌}
-use Rattle.flat.specs.Cards.{Code, code_in, disks}
-use Rattle.peeling.specs.Peeling.{Peeled, peeled}
-use Rattle.peeler.specs.Forms.{found}
+use native.Mathlib.Omega.{arith}
+use Rattle.flat.specs.Repairs.{filled}
+use Rattle.peeling.specs.Peeling.{peeled}
 use Rattle.peeler.proofs.Stepping.{none_other, going_start, going_stuck, going_spent, going_more}
 use Rattle.peeler.proofs.peel.Goals as goal
 
 pub loop-steps-init : goal.loop-steps-init
-loop-steps-init c =
-    let a = c.args in
-    (omega arith, c.requires.le_l.1, going_start (code_in a.k a.m a.columns.now) a.l a.budget a.lost a.stripe.now)
+loop-steps-init c = let a = c.args in (omega arith, c.requires.1, going_start a.code.now a.l a.budget a.lost a.stripe.now)
 
-pub returns-then-disk-eq0 : goal.returns-then-disk-eq0
-returns-then-disk-eq0 c =
-    let C : Code =
-    let a = c.args in code_in a.k a.m a.columns.now in
-    let whole : Peeled =
-    let a = c.args in peeled (C) a.l a.budget a.lost a.stripe.now in
-    let rows : List ℕ =
-    c.checks-checks.result.rows in
-    let disk-is : c.next-step.result.disk ≡ (found (rows) c.loop-steps.left c.args.m).set =
-    c.next-step.ensures.disk_value ∙ ap (λ (n : ℕ). (found (rows) c.loop-steps.left n).set) c.checks-checks.ensures.0 in
+pub returns-in_default : goal.returns-in_default
+returns-in_default c =
     let a = c.args in
-    let t = c.loop-steps in
-    let r = going_stuck (C) a.l a.budget (whole) (rows) c.checks-checks.ensures.1 t.steps t.left t.stripe
-    (sym (disk-is) ∙ c.if-disk-eq0.true) t.invariant.2 in
-    record { steps_value = r.0; left_value = r.1; stripe_after = r.2 }
+    let at = c.loop-steps in
+    let checks = c.checks-checks in
+    let r = going_stuck a.code.now a.l a.budget (peeled a.code.now a.l a.budget a.lost a.stripe.now) checks.result checks.ensures.value checks.ensures.count
+    at.steps at.left at.stripe c.in_default.ensures at.invariant.2 in
+    record { steps = r.0; left = r.1; stripe = r.2 }
 
 pub mend-requires : goal.mend-requires
 mend-requires c =
-    let rows : List ℕ =
-    c.checks-checks.result.rows in
-    let others_are : c.next-step.result.others ≡ (found (rows) c.loop-steps.left c.args.m).word ∖ c.next-step.result.disk =
-    c.next-step.ensures.others_value
-    ∙ ap (λ (n : ℕ). (found (rows) c.loop-steps.left n).word ∖ c.next-step.result.disk) c.checks-checks.ensures.0 in
-    record { le_l = (c.requires.le_l.0, search rules, sym c.loop-steps.invariant.1); by_index = none_other _ _ _ (others_are) }
+    record {
+      sizes = (c.requires.0, c.n-n.ensures.bound, ap (λ (n : ℕ). n * c.args.l) c.n-n.ensures.value ∙ sym c.loop-steps.invariant.1);
+      apart = none_other _ _ _ c.in-Some.ensures.2;
+    }
 
 pub loop-steps-preserved : goal.loop-steps-preserved
-unfolding disks
 loop-steps-preserved c =
-    let C : Code =
-    let a = c.args in code_in a.k a.m a.columns.now in
-    let whole : Peeled =
-    let a = c.args in peeled (C) a.l a.budget a.lost a.stripe.now in
-    let rows : List ℕ =
-    c.checks-checks.result.rows in
-    let disk-is : c.next-step.result.disk ≡ (found (rows) c.loop-steps.left c.args.m).set =
-    c.next-step.ensures.disk_value ∙ ap (λ (n : ℕ). (found (rows) c.loop-steps.left n).set) c.checks-checks.ensures.0 in
-    let others_are : c.next-step.result.others ≡ (found (rows) c.loop-steps.left c.args.m).word ∖ c.next-step.result.disk =
-    c.next-step.ensures.others_value
-    ∙ ap (λ (n : ℕ). (found (rows) c.loop-steps.left n).word ∖ c.next-step.result.disk) c.checks-checks.ensures.0 in
     let a = c.args in
-    let t = c.loop-steps in
-    let d = c.mend in (
+    let at = c.loop-steps in
+    let checks = c.checks-checks in
+    let step = c.in-Some.ensures in (
       search rules,
       search rules,
-      going_more (C) a.l a.budget (whole) (rows) c.checks-checks.ensures.1 t.steps t.left t.stripe
-          c.next-step.result.disk c.next-step.result.others c.outside-left.result d.new.s (search rules) (disk-is) c.if-disk-eq0.false (others_are)
-          d.ensures c.outside-left.ensures t.invariant.2,
+      going_more a.code.now a.l a.budget (peeled a.code.now a.l a.budget a.lost a.stripe.now) checks.result checks.ensures.value checks.ensures.count at.steps at.left at.stripe
+          c.in-Some.step.disk c.in-Some.step.others c.outside-left.result c.mend.new.s (search rules) step.0 step.1 step.2
+          (c.mend.ensures ∙ ap (λ (n : ℕ). filled n a.l (λ d. c.in-Some.step.others) c.in-Some.step.disk at.stripe) c.n-n.ensures.value) c.outside-left.ensures
+          at.invariant.2,
     )
 
 pub returns : goal.returns
 returns c =
     let a = c.args in
-    let t = c.loop-steps in
-    let D = code_in a.k a.m a.columns.now in
-    let e : t.steps ≡ a.budget = omega arith in
-    let r = going_spent D a.l a.budget (peeled D a.l a.budget a.lost a.stripe.now) c.checks-checks.result.rows c.checks-checks.ensures.1
-    t.steps t.left t.stripe e t.invariant.2 in
-    record { steps_value = sym e ∙ r.0; left_value = r.1; stripe_after = r.2 }
+    let at = c.loop-steps in
+    let checks = c.checks-checks in
+    let e : at.steps ≡ a.budget = omega arith in
+    let r = going_spent a.code.now a.l a.budget (peeled a.code.now a.l a.budget a.lost a.stripe.now) checks.result checks.ensures.value checks.ensures.count
+    at.steps at.left at.stripe e at.invariant.2 in
+    record { steps = sym e ∙ r.0; left = r.1; stripe = r.2 }

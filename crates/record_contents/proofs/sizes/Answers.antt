@@ -1,8 +1,7 @@
--- `record_contents::sizes` meets its contract. Assumes nothing.
-use mathlib.Core.Path.{refl}
-use Rattle.flat.specs.Lists.{bytes}
+-- `record_contents::sizes` meets its contract: the bytes that are taken are the first of those that the library writes.
+-- Assumes nothing.
+use Rattle.record_contents.proofs.Numbers.{four_bytes, two_bytes}
 use Rattle.record_contents.proofs.sizes.Goals as goal
 
 pub returns : goal.returns
-unfolding bytes
-returns c = rw (c.low.ensures, c.low-2.ensures, c.low-3.ensures, c.low-4.ensures, c.low-5.ensures, c.low-6.ensures) refl
+returns c = rw (c.to_le_bytes.ensures, c.to_le_bytes-2.ensures, four_bytes, two_bytes)

@@ -1,32 +1,31 @@
--- `record_writer::write` meets its contract.
+-- `record_writer::write` meets its contract: what is refused leaves the output as it was, and what is accepted is put.
 -- Assumes nothing.
-use mathlib.Core.Path.{◌≡◌, sym, ◌∙◌}
-use lib.ListN.{length}
-use Rattle.record_format.specs.Faults.{record_write_report}
-use Rattle.flat.specs.Cards.{edition_one}
-use Rattle.card.proofs.Callers.{GoodCard, good, one-length}
-use Rattle.record_writer.specs.Reports.{report}
-use Rattle.record_writer.proofs.WriterAnswers.{good_report, good_output, bad_report, bad_output}
+use mathlib.Core.Path.{sym, ◌∙◌}
+use Rattle.record_writer.specs.declared.RecordWriteError.TheVariants.{Card}
+use Rattle.record_writer.proofs.WriterAnswers.{bad_report, output-kept, good_report, record_fits, output_written}
 use Rattle.record_writer.proofs.write.Goals as goal
 
-pub write_good-requires : goal.write_good-requires
-write_good-requires c =
-    let known : GoodCard (edition_one c.args.card.now) c.in-Good.k c.in-Good.m =
-    good _ _ _ (c.in-Good.ensures) in
-    let g = known in (g.columns.0, g.columns.1, g.columns.3, one-length _ _ _ g)
-
-pub returns-in-Bad : goal.returns-in-Bad
-returns-in-Bad c =
-    let e = c.in-Bad.ensures in
-    let f = c.in-Bad.fault in
-    record { result_value = bad_report _ f _ _ _ _ e; out_after = bad_output _ f _ _ _ _ e }
-
-pub returns-in-Good : goal.returns-in-Good
-returns-in-Good c =
-    let known : GoodCard (edition_one c.args.card.now) c.in-Good.k c.in-Good.m =
-    good _ _ _ (c.in-Good.ensures) in
+pub returns-in_err-code-clause-out_after : goal.returns-in_err-code-clause-out_after
+returns-in_err-code-clause-out_after c =
     let a = c.args in
-    let v = c.write_good in
-    let e : report v.result ≡ record_write_report a.card.now a.l a.lost (length a.stripe.now) (length a.out.now) =
-    v.ensures.result_value ∙ sym (good_report _ _ _ _ _ _ _ (known)) in
-    record { result_value = e; out_after = v.ensures.out_after ∙ good_output _ _ _ _ _ _ _ (known) _ e }
+    output-kept a.card.now a.l a.lost a.stripe.now a.out.now (Card _) (bad_report a.card.now a.l a.lost a.stripe.now a.out.now _ c.in_err-code.ensures.value)
+
+pub returns-in_err-len-clause-out_after : goal.returns-in_err-len-clause-out_after
+returns-in_err-len-clause-out_after c =
+    let a = c.args in
+    let k = c.in_ok-code.ensures in
+    output-kept a.card.now a.l a.lost a.stripe.now a.out.now _
+    (c.in_err-len.ensures ∙ sym (good_report a.card.now a.l a.lost a.stripe.now a.out.now _ k.value k.code))
+
+pub put_record-requires : goal.put_record-requires
+put_record-requires c =
+    let a = c.args in
+    let k = c.in_ok-code.ensures in
+    record_fits a.card.now a.l a.lost a.stripe.now a.out.now _ k.value k.code _ c.in_ok-len.ensures _ c.n.ensures.value
+
+pub returns-clause-out_after : goal.returns-clause-out_after
+returns-clause-out_after c =
+    let a = c.args in
+    let k = c.in_ok-code.ensures in
+    c.put_record.ensures
+    ∙ output_written a.card.now a.l a.lost a.stripe.now a.out.now _ k.value k.code _ c.in_ok-len.ensures _ c.n.ensures.value

@@ -3,7 +3,6 @@
 use mathlib.Core.Path.{ap, ap₂, ◌∙◌}
 use Prim.Native.Nat.{ℕ}
 use lib.Bits.{bit_xor}
-use lib.ListN.{take}
 use Rattle.gf2.specs.Sets.{◌∖◌, ◌⊕◌}
 use Rattle.gf2.specs.Within.{within}
 use Rattle.gf2.proofs.Bits.{one_shifted}
@@ -14,10 +13,10 @@ pub returns : goal.returns
 unfolding ◌⊕◌ equation_in
 returns c =
     let a = c.args in
-    let disk = one_shifted a.d c.requires.1 in
+    let disk = one_shifted a.d c.requires in
     c.outside.ensures
     ∙ ap₂ (λ (w e : ℕ). w ∖ e)
     (c.holder.ensures
     ∙ ap (holder a.d)
-    (c.within.ensures.1 ∙ ap (λ (e : ℕ). within (bit_xor a.left e) (take a.checks.count a.checks.rows)) disk))
+    (c.within.ensures.value ∙ ap (λ (e : ℕ). within (bit_xor a.left e) a.checks.now) disk))
     disk

@@ -9,16 +9,16 @@ use borrow.Author.Rules.{rules}
 use Rattle.repairs.proofs.equations.Goals as goal
 
 pub loop-d-init : goal.loop-d-init
-loop-d-init c = (omega arith, refl, fill_none 32 _)
+loop-d-init c = record { long = refl; filled = fill_none 32 _ }
 
 pub loop-d-preserved : goal.loop-d-preserved
 loop-d-preserved c =
     let l = c.loop-d in
-    (search rules, search rules, fill_more 32 l.d _ _ l.out (search rules) l.invariant.2 c.equation_if_target.ensures)
+    record { long = search rules; filled = fill_more 32 l.d _ _ l.out (search rules) l.invariant.filled c.equation_if_target.ensures }
 
 pub returns : goal.returns
 returns c =
     let l = c.loop-d in
     let a = c.args in
     let e : l.d ≡ a.n = omega arith in
-    (rw e at l.invariant.2) ∙ table_end 32 a.n (has a.targets) (equation_in _ a.left) c.requires.1
+    (rw e at l.invariant.filled) ∙ table_end 32 a.n (has a.targets) (equation_in _ a.left) c.requires

@@ -1,64 +1,41 @@
 -- `restorer::restore` meets its contract: what the checks, and the survivors' strips, tell.
 -- Assumes nothing.
-use mathlib.Core.Path.{◌≡◌, refl, sym, ◌∙◌}
-use Prim.Native.Nat.{◌+◌, ◌≤◌}
+use mathlib.Core.Path.{refl, sym, ap, ◌∙◌}
+use Prim.Native.Nat.{ℕ, ◌*◌, ◌≤◌}
 use native.Mathlib.Omega.{arith}
-use borrow.Author.Rules.{rules}
-use lib.ListN.{take}
-use Rattle.flat.specs.Cards.{Code, disks, code_in}
-use Rattle.flat.specs.Repairs.{consistent}
-use Rattle.flat.specs.Spans.{checks}
+use Rattle.flat.specs.Cards.{disks}
 use Rattle.repairs.proofs.Callers.{words-consistent, apart, filled_among}
-use Rattle.bases.proofs.Systematic.{taken}
 use Rattle.restorer.proofs.restore.Goals as goal
 
-pub all_vanish-requires : goal.all_vanish-requires
-all_vanish-requires c =
-    let few : c.args.k + c.args.m ≤ 32 =
-    omega (arith, c.requires.columns) in
-    let q = c.requires.le_l in
-    (q.1, few, omega (arith, q.4), search rules)
+pub survivors-left-requires : goal.survivors-left-requires
+unfolding disks
+survivors-left-requires c = let legal = c.n-n.ensures.legal in (omega (arith, c.n-n.ensures.value, legal.0), c.n-n.ensures.bound)
 
 pub returns-then-not-all_vanish : goal.returns-then-not-all_vanish
-unfolding disks
 returns-then-not-all_vanish c =
-    let C : Code =
-    let a = c.args in code_in a.k a.m a.columns.now in
-    let checked : take c.checks-checks.result.count c.checks-checks.result.rows ≡ checks (C) =
-    taken _ _ _ _ c.checks-checks.ensures.0 c.checks-checks.ensures.1 in
-    let answer : let a = c.args in
-    c.all_vanish.result ≡ consistent (C) a.l a.lost a.stripe.now =
-    c.all_vanish.ensures
-    ∙ words-consistent (C) _ _ _ _ _ (checked) (rw c.survivors-left.ensures at c.within.ensures.1) in
-    let e = c.if-not-all_vanish.true in
-    record { value = sym e ∙ answer; stripe_after = refl }
+    let answer = rw c.n-n.ensures.value at c.all_vanish.ensures
+    ∙ words-consistent c.args.code.now _ _ _ _ _ c.checks-checks.ensures.value (rw (c.survivors-left.ensures, c.n-n.ensures.value) at c.within.ensures.value) in
+    record { answer = sym c.if-not-all_vanish.true ∙ answer; stripe = refl }
 
 pub fill-requires : goal.fill-requires
-unfolding disks
 fill-requires c =
-    let C : Code =
-    let a = c.args in code_in a.k a.m a.columns.now in
-    let few : c.args.k + c.args.m ≤ 32 =
-    omega (arith, c.requires.columns) in
-    let checked : take c.checks-checks.result.count c.checks-checks.result.rows ≡ checks (C) =
-    taken _ _ _ _ c.checks-checks.ensures.0 c.checks-checks.ensures.1 in
-    let q = c.requires.le_l in record { le_l = (q.0, few, sym q.4); by_index = λ d i t l u. apart (C) _ _ _ _ (few) q.2 q.3 (checked) (rw c.survivors-left.ensures at c.equations-equations.ensures) d i t u }
+    let C = c.args.code.now in
+    let fits : disks C ≤ 32 = omega (arith, c.n-n.ensures) in
+    record {
+      le_l = (c.requires.sizes.0, c.n-n.ensures.bound, ap (λ (n : ℕ). n * c.args.l) c.n-n.ensures.value ∙ sym c.requires.sizes.2);
+      by_index = λ d i t l u. apart C _ _ _ _ fits c.requires.sets.0 c.requires.sets.1 c.checks-checks.ensures.value
+          (rw (c.survivors-left.ensures, c.n-n.ensures.value) at c.equations-equations.ensures) d i t u;
+    }
 
 pub returns : goal.returns
-unfolding disks
 returns c =
-    let C : Code =
-    let a = c.args in code_in a.k a.m a.columns.now in
-    let few : c.args.k + c.args.m ≤ 32 =
-    omega (arith, c.requires.columns) in
-    let checked : take c.checks-checks.result.count c.checks-checks.result.rows ≡ checks (C) =
-    taken _ _ _ _ c.checks-checks.ensures.0 c.checks-checks.ensures.1 in
-    let answer : let a = c.args in
-    c.all_vanish.result ≡ consistent (C) a.l a.lost a.stripe.now =
-    c.all_vanish.ensures
-    ∙ words-consistent (C) _ _ _ _ _ (checked) (rw c.survivors-left.ensures at c.within.ensures.1) in
-    let q = c.requires.le_l in record {
-      value = sym (c.if-not-all_vanish.false) ∙ answer;
-      stripe_after = c.fill.ensures
-          ∙ filled_among (C) _ _ _ _ (few) q.2 q.3 (checked) (rw c.survivors-left.ensures at c.equations-equations.ensures) _ _;
+    let C = c.args.code.now in
+    let fits : disks C ≤ 32 = omega (arith, c.n-n.ensures) in
+    let answer = rw c.n-n.ensures.value at c.all_vanish.ensures
+    ∙ words-consistent C _ _ _ _ _ c.checks-checks.ensures.value (rw (c.survivors-left.ensures, c.n-n.ensures.value) at c.within.ensures.value) in
+    record {
+      answer = sym c.if-not-all_vanish.false ∙ answer;
+      stripe = rw c.n-n.ensures.value at c.fill.ensures
+          ∙ filled_among C _ _ _ _ fits c.requires.sets.0 c.requires.sets.1 c.checks-checks.ensures.value
+          (rw (c.survivors-left.ensures, c.n-n.ensures.value) at c.equations-equations.ensures) _ _;
     }

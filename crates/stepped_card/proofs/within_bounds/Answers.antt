@@ -1,21 +1,17 @@
 -- within_bounds meets its contract. Assumes nothing.
 use native.Mathlib.Omega.{arith}
-use lib.Pow.{pow_mono}
 use Rattle.gf2.proofs.Bits.{one_shifted_in}
-use Rattle.stepped_card.proofs.Laws.{three_low, three_high, four_low, four_high}
+use Rattle.stepped_card.proofs.Laws.{three, four, three_low, three_high, four_low, four_high}
 use Rattle.stepped_card.proofs.within_bounds.Goals as goal
 
-pub returns-then-n-all : goal.returns-then-n-all
-returns-then-n-all c = three_low _ _ _ _ (one_shifted_in 64 _ (omega arith)) c.if-d-eq3.true (omega arith)
+pub returns-then-all-n : goal.returns-then-all-n
+returns-then-all-n c = three_high _ _ _ _ (one_shifted_in 64 _ (omega arith)) (three _ c.in-Three.is) (omega arith)
 
-pub returns-then-d-eq3 : goal.returns-then-d-eq3
-returns-then-d-eq3 c = three_high _ _ _ _ (one_shifted_in 64 _ (omega arith)) c.if-d-eq3.true (omega arith)
+pub returns-else-all-n : goal.returns-else-all-n
+returns-else-all-n c = three_low _ _ _ _ (one_shifted_in 64 _ (omega arith)) _ (grind arith) (three _ c.in-Three.is) (omega arith)
 
-pub overflow_add-all : goal.overflow_add-all
-overflow_add-all c = let m = c.args.m in omega (arith, one_shifted_in 64 m (omega arith), pow_mono {i = m} {j = 16} (omega arith))
+pub returns-then-all-n-2 : goal.returns-then-all-n-2
+returns-then-all-n-2 c = four_high _ _ _ _ (one_shifted_in 64 _ (omega arith)) (four _ c.in-Four.is) (omega arith)
 
-pub returns-then-n-all-2 : goal.returns-then-n-all-2
-returns-then-n-all-2 c = four_low _ _ _ _ (one_shifted_in 64 _ (omega arith)) c.if-d-eq3.false (omega arith)
-
-pub returns : goal.returns
-returns c = four_high _ _ _ _ (one_shifted_in 64 _ (omega arith)) c.if-d-eq3.false (omega arith)
+pub returns-else-all-n-2 : goal.returns-else-all-n-2
+returns-else-all-n-2 c = four_low _ _ _ _ (one_shifted_in 64 _ (omega arith)) _ (search arith) (four _ c.in-Four.is) (omega arith)

@@ -2,16 +2,13 @@
 -- Assumes nothing.
 use Rattle.gf2.specs.Sets.{◌⊕◌}
 use mathlib.Core.Path.{refl}
-use Rattle.strip_blocks.proofs.Loops.{table_none, table_more, table-all}
+use Rattle.strip_blocks.proofs.Loops.{table_more, table-all}
 use borrow.Author.Rules.{rules}
 use Rattle.strip_blocks.proofs.added.Goals as goal
 
-pub loop-t-init : goal.loop-t-init
-loop-t-init c = (search rules, table_none _ 128 _ (search rules))
-
 pub loop-t-preserved : goal.loop-t-preserved
 unfolding ◌⊕◌
-loop-t-preserved c = (search rules, table_more _ 128 _ _ _ c.loop-t.invariant.1 (search rules) refl)
+loop-t-preserved g c = (search rules, table_more _ g.row.W _ _ _ c.loop-t.invariant.1 (search rules) refl)
 
 pub returns : goal.returns
-returns c = table-all _ 128 _ _ c.loop-t.invariant.1 (search rules)
+returns g c = table-all _ g.row.W _ _ c.loop-t.invariant.1 (search rules)

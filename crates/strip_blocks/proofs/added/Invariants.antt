@@ -7,4 +7,4 @@ use Rattle.strip_blocks.proofs.Loops.{Table}
 use Rattle.strip_blocks.proofs.added.Given as goal
 
 abbrev pub invariant-loop-t : goal.invariant-loop-t
-invariant-loop-t l = (l.t ≤ 128) × Table (λ j. get_or l.block j 0 ⊕ get_or l.s (l.at + j) 0) 128 l.t l.out
+invariant-loop-t g l = (l.t ≤ g.row.W) × Table (λ j. get_or l.block j 0 ⊕ get_or l.s (l.at + j) 0) g.row.W l.t l.out

@@ -1,19 +1,13 @@
--- `strip_blocks::put` meets its contract: a copy is made byte by byte.
+-- `strip_blocks::put` meets its contract: a part of the slice is written at once.
 -- Assumes nothing.
-use mathlib.Core.Path.{◌≡◌, refl}
+use mathlib.Core.Path.{◌≡◌}
+use Prim.Native.Nat.{◌+◌, ◌-◌}
 use lib.ListN.{length}
-use Rattle.strip_blocks.proofs.Loops.{copied_none, copied_more, copied_all}
+use Rattle.strip_blocks.proofs.Loops.{part_put}
 use borrow.Author.Rules.{rules}
 use Rattle.strip_blocks.proofs.put.Goals as goal
 
-pub loop-t-init : goal.loop-t-init
-loop-t-init c = (search rules, copied_none _ _ _)
-
-pub loop-t-preserved : goal.loop-t-preserved
-loop-t-preserved c = (search rules, copied_more _ _ _ _ _ _ c.loop-t.invariant.1 (search rules) (search rules) refl)
-
-pub shape_of-s : goal.shape_of-s
-shape_of-s c = c.loop-t.invariant.1.long
-
 pub returns : goal.returns
-returns c = let e : c.loop-t.t ≡ length c.args.block = search rules in copied_all _ _ _ _ _ c.loop-t.invariant.1 e
+returns g c =
+    let long : length c.args.block ≡ c.args.at + g.row.W - c.args.at = search rules in
+    part_put _ _ _ _ _ c.copy_from_slice.ensures.after long

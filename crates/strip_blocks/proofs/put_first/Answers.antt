@@ -1,18 +1,15 @@
--- `strip_blocks::put_first` meets its contract: a copy is made byte by byte.
+-- `strip_blocks::put_first` meets its contract: a part of the slice is written at once.
 -- Assumes nothing.
-use mathlib.Core.Path.{◌≡◌, refl}
-use Rattle.strip_blocks.proofs.Loops.{copied_none, copied_more, copied_first}
+use mathlib.Core.Path.{◌≡◌}
+use Prim.Native.Nat.{◌+◌, ◌-◌}
+use native.Mathlib.Omega.{arith}
+use lib.ListN.{length, take}
+use lib.Seq.{length-take-le}
+use Rattle.strip_blocks.proofs.Loops.{part_put}
 use borrow.Author.Rules.{rules}
 use Rattle.strip_blocks.proofs.put_first.Goals as goal
 
-pub loop-t-init : goal.loop-t-init
-loop-t-init c = (search rules, copied_none _ _ _)
-
-pub loop-t-preserved : goal.loop-t-preserved
-loop-t-preserved c = (search rules, copied_more _ _ _ _ _ _ c.loop-t.invariant.1 (search rules) (search rules) refl)
-
-pub shape_of-s : goal.shape_of-s
-shape_of-s c = c.loop-t.invariant.1.long
-
 pub returns : goal.returns
-returns c = let e : c.loop-t.t ≡ c.args.count = search rules in copied_first _ _ _ _ _ _ c.loop-t.invariant.1 e (search rules)
+returns g c =
+    let long : length (take c.args.count c.args.block) ≡ c.args.at + c.args.count - c.args.at = omega (arith, length-take-le c.args.count c.args.block (search rules)) in
+    part_put _ _ _ _ _ c.copy_from_slice.ensures.after long

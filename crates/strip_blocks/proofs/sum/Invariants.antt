@@ -7,4 +7,4 @@ use Rattle.strip_blocks.proofs.Summed.{Summed}
 use Rattle.strip_blocks.proofs.sum.Given as goal
 
 abbrev pub invariant-loop-i : goal.invariant-loop-i
-invariant-loop-i l = (l.i ≤ l.n) × Summed 128 (λ j t. over j l.set (byte_of l.l l.s (l.o + t))) l.i l.block
+invariant-loop-i g l = (l.i ≤ l.n) × Summed g.row.W (λ j t. over j l.set (byte_of l.l l.s (l.o + t))) l.i l.block

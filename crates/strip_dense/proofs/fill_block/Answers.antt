@@ -6,33 +6,10 @@ use native.Mathlib.Omega.{arith}
 use lib.ListN.{get_or}
 use Rattle.gf2.proofs.Tests.{true-T, false-T}
 use Rattle.flat.proofs.Positions.{strip-within}
-use Rattle.strip_dense.proofs.Patched.{Blocks, block_none, block_skip, block_more, block-all}
+use Rattle.strip_dense.proofs.Patched.{Blocks, block_skip, block_more, block-all}
 use borrow.Author.Rules.{rules}
 use Rattle.strip_dense.proofs.fill_block.Goals as goal
 use Rattle.strip_dense.proofs.fill_block.Goals.{else-has, then-has}
-
-pub loop-d-init : goal.loop-d-init
-loop-d-init c =
-    let a = c.args in
-    (search rules, block_none a.n a.l (λ i. get_or a.sets i 0) a.targets a.s.now a.local.now a.o)
-
-pub overflow_mul-d : goal.overflow_mul-d
-overflow_mul-d c =
-    let inside : c.loop-d.d * c.args.l + c.args.l ≤ c.args.n * c.args.l =
-    strip-within c.loop-d.d c.args.n c.args.l (omega arith) in
-    omega (arith, inside)
-
-pub overflow_add-d : goal.overflow_add-d
-overflow_add-d c =
-    let inside : c.loop-d.d * c.args.l + c.args.l ≤ c.args.n * c.args.l =
-    strip-within c.loop-d.d c.args.n c.args.l (omega arith) in
-    omega (arith, inside)
-
-pub put-requires : goal.put-requires
-put-requires c =
-    let inside : c.loop-d.d * c.args.l + c.args.l ≤ c.args.n * c.args.l =
-    strip-within c.loop-d.d c.args.n c.args.l (omega arith) in
-    omega (arith, inside, c.loop-d.invariant.1.long)
 
 pub loop-d-preserved : goal.loop-d-preserved
 loop-d-preserved c =

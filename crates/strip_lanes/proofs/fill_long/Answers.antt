@@ -1,14 +1,14 @@
 -- `strip_lanes::fill_long` meets its contract: the strip is written up to o, the data strips are as at entry.
 -- Assumes nothing.
 use mathlib.Core.Path.{◌≡◌}
-use Rattle.strip_lanes.proofs.Lanes.{lanes_made, strip-none, strip-block, strip-all}
+use Rattle.strip_lanes.proofs.Spreading.{spread-zeros, strip-none, strip-block, strip-all}
 use borrow.Author.Rules.{rules}
 use Rattle.strip_lanes.proofs.fill_long.Goals as goal
 
 pub loop-o-init : goal.loop-o-init
 loop-o-init c =
     let a = c.args in
-    (search rules, lanes_made _ _ _ _ c.requires.1 c.requires.4 c.spread.ensures, strip-none a.k a.l a.bits.now a.j a.s.now)
+    (search rules, spread-zeros _ _ _ _ _ c.requires.1 c.new-lanes.ensures c.spread.ensures, strip-none a.k a.l a.bits.now a.j a.s.now)
 
 pub loop-o-preserved : goal.loop-o-preserved
 loop-o-preserved c =
@@ -18,9 +18,6 @@ loop-o-preserved c =
       strip-block a.k a.l a.bits.now a.j a.s.now c.loop-o.s _ _ _ c.loop-o.o _ c.loop-o.invariant.1 c.loop-o.invariant.2
           (search rules) (search rules) (search rules) (search rules) c.sum-block.ensures c.put.ensures,
     )
-
-pub shape_of-s : goal.shape_of-s
-shape_of-s c = c.loop-o.invariant.2.long
 
 pub returns : goal.returns
 returns c =

@@ -10,12 +10,11 @@ use Rattle.strip_products.proofs.Products.{product_le, product-chosen}
 use Rattle.strip_products.proofs.product.Goals as goal
 
 -- a byte times a bit, in either order
-answered : (r x b : ℕ) → r ≡ x * b → b ≤ 1 → (r ≡ x * b) × (r ≡ (if eqb b 1 then x else 0))
-answered r x b e h = (e, e ∙ product-chosen x b h)
+chosen : (r x b : ℕ) → r ≡ x * b → b ≤ 1 → r ≡ (if eqb b 1 then x else 0)
+chosen r x b e h = e ∙ product-chosen x b h
 
 pub overflow_mul-product : goal.overflow_mul-product
 overflow_mul-product c = let a = c.args in record { fits = omega (arith, mul_comm a.byte a.bit, product_le a.byte a.bit c.requires) }
 
-pub returns : goal.returns
-returns c =
-    record { value = (answered _ c.args.byte c.args.bit (search mul_comm) c.requires).0; value_2 = (answered _ c.args.byte c.args.bit (search mul_comm) c.requires).1 }
+pub returns-clause-chosen : goal.returns-clause-chosen
+returns-clause-chosen c = chosen _ c.args.byte c.args.bit (search mul_comm) c.requires

@@ -7,4 +7,4 @@ use Rattle.strip_products.proofs.Joined.{joined}
 use Rattle.strip_rows.proofs.add_byte.Given as goal
 
 abbrev pub invariant-loop-j : goal.invariant-loop-j
-invariant-loop-j l = (l.j ≤ 16) × Run l.initial.rows l.at (joined l.initial.rows l.at (λ u. l.byte * get_or l.bits (l.b + u) 0)) l.j l.rows
+invariant-loop-j l = (l.j ≤ 16) × Run l.initial.rows l.at (joined l.initial.rows l.at (λ u. l.byte * get_or l.bits (l.i * 16 + u) 0)) l.j l.rows

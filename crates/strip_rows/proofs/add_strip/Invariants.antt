@@ -6,4 +6,4 @@ use Rattle.strip_rows.proofs.Rows.{added_place}
 use Rattle.strip_rows.proofs.add_strip.Given as goal
 
 abbrev pub invariant-loop-t : goal.invariant-loop-t
-invariant-loop-t l = (l.t ≤ l.l) × Run l.initial.rows 0 (added_place l.initial.rows l.s l.at l.bits l.b) (l.t * 16) l.rows
+invariant-loop-t l = (l.t ≤ l.l) × Run l.initial.rows 0 (added_place l.initial.rows l.s l.at l.bits (l.i * 16)) (l.t * 16) l.rows

@@ -17,13 +17,6 @@ overflow_mul-i c =
     let a = c.args in strip-within c.loop-i.i a.k a.l (omega arith) in
     omega (arith, inside)
 
-pub add_strip-requires : goal.add_strip-requires
-add_strip-requires c =
-    let inside : let a = c.args in c.loop-i.i * a.l + a.l ≤ a.k * a.l =
-    let a = c.args in strip-within c.loop-i.i a.k a.l (omega arith) in
-    let p = c.requires in
-    (c.loop-i.invariant.1.long, p.0, omega (arith, inside), p.3, omega (arith, p.1), p.4)
-
 pub loop-i-preserved : goal.loop-i-preserved
 loop-i-preserved c = (search rules, summed_more _ _ _ _ _ _ _ c.loop-i.invariant.1 (search rules) c.add_strip.ensures (search rules))
 

@@ -1,21 +1,12 @@
 -- `strip_steady::fill_each` meets its contract: the strips of the parity disks so far are made.
 -- Assumes nothing.
-use mathlib.Core.Path.{◌≡◌, sym, ◌∙◌}
+use mathlib.Core.Path.{◌≡◌}
 use Prim.Native.Nat.{◌+◌}
 use native.Mathlib.Omega.{arith}
 use Rattle.flat.proofs.Positions.{strip-within}
-use Rattle.strip_products.proofs.Made.{strips-none, strips-more, strips-all}
+use Rattle.strip_products.proofs.Made.{strips-more, strips-all}
 use borrow.Author.Rules.{rules}
 use Rattle.strip_steady.proofs.fill_each.Goals as goal
-
-pub loop-j-init : goal.loop-j-init
-loop-j-init c = let a = c.args in (search rules, strips-none a.k a.l a.bits.now a.s.now)
-
-pub fill_strip-requires : goal.fill_strip-requires
-fill_strip-requires c =
-    let lp = c.loop-j in
-    let n = c.requires in
-    (search rules, search rules, search rules, search rules, n.4 ∙ sym lp.invariant.1.long, search rules, n.6, search rules)
 
 pub loop-j-preserved : goal.loop-j-preserved
 loop-j-preserved c =
@@ -24,9 +15,6 @@ loop-j-preserved c =
       strips-more a.k a.l a.bits.now a.s.now _ _ _ c.loop-j.invariant.1
           (omega (arith, strip-within (a.k + c.loop-j.j) (a.k + a.m) a.l (search rules))) c.fill_strip.ensures,
     )
-
-pub shape_of-s : goal.shape_of-s
-shape_of-s c = c.loop-j.invariant.1.long
 
 pub returns : goal.returns
 returns c =

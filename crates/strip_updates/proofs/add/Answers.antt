@@ -5,12 +5,9 @@ use Prim.Native.Nat.{ℕ}
 use native.Mathlib.Omega.{arith}
 use lib.ListN.{get_or}
 use Rattle.gf2.specs.Sets.{◌⊕◌}
-use Rattle.strip_blocks.proofs.Runs.{run_none, run_byte, run_all}
+use Rattle.strip_blocks.proofs.Runs.{run_byte, run_all}
 use borrow.Author.Rules.{rules}
 use Rattle.strip_updates.proofs.add.Goals as goal
-
-pub loop-t-init : goal.loop-t-init
-loop-t-init c = (search rules, run_none _ _ _)
 
 pub loop-t-preserved : goal.loop-t-preserved
 unfolding ◌⊕◌

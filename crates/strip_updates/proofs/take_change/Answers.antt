@@ -2,12 +2,9 @@
 -- Assumes nothing.
 use Rattle.gf2.specs.Sets.{◌⊕◌}
 use mathlib.Core.Path.{refl}
-use Rattle.strip_blocks.proofs.Loops.{table_none, table_more, table-all}
+use Rattle.strip_blocks.proofs.Loops.{table_more, table-all}
 use borrow.Author.Rules.{rules}
 use Rattle.strip_updates.proofs.take_change.Goals as goal
-
-pub loop-t-init : goal.loop-t-init
-loop-t-init c = (search rules, table_none _ _ _ refl)
 
 pub loop-t-preserved : goal.loop-t-preserved
 unfolding ◌⊕◌

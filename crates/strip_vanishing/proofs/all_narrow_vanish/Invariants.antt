@@ -1,10 +1,7 @@
--- `strip_vanishing::all_narrow_vanish` meets its contract: in the copy, whose strips are the same, the rows before j vanish.
+-- `strip_vanishing::all_narrow_vanish` meets its contract: in the copy, whose strips are the same, the words before the next vanish.
 -- Assumes nothing.
-use mathlib.Core.Path.{◌≡◌}
-use Prim.Native.Nat.{◌≤◌}
-use lib.ListN.{length, take}
 use Rattle.strip_vanishing.proofs.Vanishing.{Tested}
 use Rattle.strip_vanishing.proofs.all_narrow_vanish.Given as goal
 
-abbrev pub invariant-loop-j : goal.invariant-loop-j
-invariant-loop-j l = (l.count ≤ 16) × (l.j ≤ l.count) × (length (take l.count l.sets) ≡ l.count) × Tested l.n l.l l.local (take l.count l.sets) l.j
+abbrev pub invariant-loop-word : goal.invariant-loop-word
+invariant-loop-word l = Tested l.n l.l l.local l.word-items l.word-index

@@ -6,4 +6,4 @@ use borrow.Author.Rules.{rules}
 use Rattle.strip_vanishing.proofs.vanishes_narrow.Goals as goal
 
 pub returns : goal.returns
-returns c = c.starts_zero_16.ensures ∙ vanished_in _ _ _ _ 16 _ (search rules) c.block_16.ensures
+returns c = c.starts_zero.ensures ∙ vanished_in _ _ _ _ 16 _ (search rules) c.suited_sum.ensures

@@ -1,27 +1,13 @@
 -- `strips::fill_each` meets its contract: the strips of the targets below d are filled.
 -- Assumes nothing.
 use mathlib.Core.Path.{sym, ◌∙◌, subst}
-use Prim.Native.Nat.{ℕ, ◌+◌, ◌*◌, ◌≤◌}
-use native.Mathlib.Omega.{arith}
-use lib.Dec.{T}
+use Prim.Native.Nat.{ℕ, ◌+◌}
 use lib.ListN.{get_or}
-use Rattle.gf2.specs.Sets.{has}
 use Rattle.gf2.proofs.Tests.{true-T, false-T}
-use Rattle.flat.proofs.Positions.{strip-within}
-use Rattle.strips.proofs.Filling.{FilledTo, filled_none, filled_skip, filled-strip, filled-all}
+use Rattle.strips.proofs.Filling.{FilledTo, filled_skip, filled-strip, filled-all}
 use borrow.Author.Rules.{rules}
 use Rattle.strips.proofs.fill_each.Goals as goal
 use Rattle.strips.proofs.fill_each.Goals.{else-has, then-has}
-
-pub loop-d-init : goal.loop-d-init
-loop-d-init c = let a = c.args in filled_none a.n a.l (λ i. get_or a.sets i 0) a.targets a.s.now
-
-pub fill_strip-requires : goal.fill_strip-requires
-fill_strip-requires c =
-    let inside : c.loop-d.d * c.args.l + c.args.l ≤ c.args.n * c.args.l =
-    strip-within c.loop-d.d c.args.n c.args.l (omega arith) in
-    let lp = c.loop-d in
-    let t = true-T (sym c.has.ensures ∙ c.if-has.true) in record { le_l = omega (arith, inside, lp.invariant.long); by_index = λ i h u e. c.requires.by_index lp.d i t (omega arith) u (subst (λ (x : ℕ). T (has c.args.targets x)) (sym e) t) }
 
 pub loop-d-preserved : goal.loop-d-preserved
 loop-d-preserved c =
@@ -32,7 +18,7 @@ loop-d-preserved c =
       | then-has w ↦ let t = true-T (sym c.has.ensures ∙ w.if-has.true) in
           subst (FilledTo a.n a.l E a.targets a.s.now (lp.d + 1)) (sym w.s-is)
           (filled-strip a.n a.l E a.targets a.s.now lp.d lp.s _ (search rules) lp.invariant t (search rules)
-          (λ i h u. c.requires.by_index lp.d i t h u) w.fill_strip.ensures)
+          (λ i h u. c.requires.apart lp.d i t h u) w.fill_strip.ensures)
       | else-has w ↦ subst (FilledTo a.n a.l E a.targets a.s.now (lp.d + 1)) (sym w.s-is)
           (filled_skip a.n a.l E a.targets a.s.now lp.d lp.s lp.invariant (false-T (sym c.has.ensures ∙ w.if-has.false)))
     ]

@@ -5,5 +5,5 @@ use lib.ListN.{get_or}
 use Rattle.strips.proofs.Filling.{FilledTo}
 use Rattle.strips.proofs.fill_narrow.Given as goal
 
-abbrev pub invariant-loop-d : goal.invariant-loop-d
-invariant-loop-d l = (l.d ≤ l.n) × FilledTo l.n l.l (λ i. get_or l.sets i 0) l.targets l.initial.s l.d l.s
+abbrev pub invariant-loop-disk : goal.invariant-loop-disk
+invariant-loop-disk l = (l.disk ≤ l.n) × FilledTo l.n l.l (λ i. get_or l.sets i 0) l.targets l.initial.s l.disk l.s

@@ -2,16 +2,20 @@
 -- Assumes nothing.
 use mathlib.Core.Path.{ap, ◌∙◌}
 use mathlib.Core.List.{List}
-use Prim.Native.Nat.{ℕ, ◌+◌, ◌*◌}
-use Rattle.flat.specs.Cards.{code_in, disks}
+use Prim.Native.Nat.{ℕ, ◌*◌}
 use Rattle.peeling.specs.Peeling.{peeled}
-use Rattle.tray.proofs.Placing.{part_is, peeled-placed}
+use Rattle.tray.proofs.Placing.{peeled_part, peeled-placed}
 use Rattle.tray.proofs.peel_at.Goals as goal
 
 pub returns : goal.returns
-unfolding disks
 returns c =
     let a = c.args in
-    let v = c.peel in
-    let C = code_in a.k a.m a.columns.now in
-    let e = part_is a.at ((a.k + a.m) * a.l) a.tray.now in record { steps_value = v.ensures.steps_value ∙ ap (λ (p : List ℕ). (peeled C a.l a.budget a.lost p).steps) e; left_value = v.ensures.left_value ∙ ap (λ (p : List ℕ). (peeled C a.l a.budget a.lost p).left) e; tray_after = peeled-placed C a.l a.budget a.lost a.at a.tray.now _ c.requires.le_l.1 v.ensures.stripe_after }
+    let C = a.code.now in
+    let v = c.peel.ensures in
+    let wide = ap (λ (n : ℕ). n * a.l) c.n.ensures.value in
+    let e = peeled_part C a.l a.at _ a.tray.now wide in
+    record {
+      steps = v.steps ∙ ap (λ (p : List ℕ). (peeled C a.l a.budget a.lost p).steps) e;
+      left = v.left ∙ ap (λ (p : List ℕ). (peeled C a.l a.budget a.lost p).left) e;
+      tray = peeled-placed C a.l a.at _ a.tray.now wide a.budget a.lost _ c.requires.1 v.stripe;
+    }

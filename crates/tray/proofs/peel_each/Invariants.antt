@@ -3,11 +3,10 @@
 use mathlib.Core.Path.{◌≡◌}
 use Prim.Native.Nat.{◌≤◌}
 use lib.ListN.{length}
-use Rattle.flat.specs.Cards.{code_in}
 use Rattle.tray.proofs.Turning.{Turned}
 use Rattle.tray.proofs.peel_each.Given as goal
 
 abbrev pub invariant-loop-i : goal.invariant-loop-i
 invariant-loop-i l =
     (l.i ≤ l.i-end) × (l.i-end ≡ length l.sets) × (length l.left ≡ 8) × (length l.tray ≡ length l.initial.tray)
-    × Turned (code_in l.k l.m l.columns) l.l l.budget l.sets l.initial.tray l.i l.steps l.left l.tray
+    × Turned l.code l.l l.budget l.sets l.initial.tray l.i l.steps l.left l.tray

@@ -1,73 +1,32 @@
 -- `turner::turn_back` meets its contract.
 -- Assumes nothing.
-use mathlib.Core.Path.{◌≡◌, sym, ap, ◌∙◌}
-use Prim.Native.Nat.{◌+◌, ◌≤◌}
+use mathlib.Core.Path.{sym}
+use Prim.Native.Nat.{◌≤◌}
 use native.Mathlib.Omega.{arith}
-use lib.ListN.{length}
-use Rattle.flat.specs.Cards.{Card, card_of}
-use Rattle.card.specs.Reports.{report as check_report}
-use Rattle.card.proofs.Callers.{GoodCard, good}
-use Rattle.turning.specs.Faults.{turn_report}
-use Rattle.turner.specs.Reports.{report}
-use Rattle.turner.proofs.Answered.{disks_are, good_report, good_back, bad_report, bad_back}
+use Rattle.std.proofs.lemmas.Result.{err_from_is_err_and}
+use Rattle.flat.specs.Cards.{disks}
+use Rattle.turner.proofs.Answered.{good_report, good_back, bad_report, bad_back}
 use Rattle.turner.proofs.turn_back.Goals as goal
 
-pub overflow_add-n : goal.overflow_add-n
-overflow_add-n c =
-    let cardAt : Card =
-    let a = c.args in card_of a.edition a.card.now in
-    let known : GoodCard (cardAt) c.in-Good.k c.in-Good.m =
-    good _ _ _ (ap check_report (sym c.in-Good.is) ∙ c.check.ensures) in
-    let few : let k = c.in-Good.k in
-    let m = c.in-Good.m in
-    (1 ≤ k + m) × (k + m ≤ 32) =
-    let p = (known).columns in (omega (arith, p), omega (arith, p)) in
-    record { fits = omega (arith, (few).1) }
+pub returns-in_err-code : goal.returns-in_err-code
+returns-in_err-code c =
+    let p = err_from_is_err_and c.from_residual.result c.from_residual.ensures.1 in
+    let value = c.in_err-code.ensures.value in
+    record { result_value = rw (p.1, p.2) (bad_report _ _ _ c.args.r _ _ _ value); out_after = bad_back _ _ _ _ _ _ _ value }
 
-pub turn-requires : goal.turn-requires
-turn-requires c =
-    let cardAt : Card =
-    let a = c.args in card_of a.edition a.card.now in
-    let known : GoodCard (cardAt) c.in-Good.k c.in-Good.m =
-    good _ _ _ (ap check_report (sym c.in-Good.is) ∙ c.check.ensures) in
-    let few : let k = c.in-Good.k in
-    let m = c.in-Good.m in
-    (1 ≤ k + m) × (k + m ≤ 32) =
-    let p = (known).columns in (omega (arith, p), omega (arith, p)) in
-    few
+pub of-turn-requires : goal.of-turn-requires
+unfolding disks
+of-turn-requires c = let legal = c.n-n.ensures.legal in (omega (arith, c.n-n.ensures.value, legal.0), c.n-n.ensures.bound)
 
-pub turn_to-requires : goal.turn_to-requires
-turn_to-requires c =
-    let cardAt : Card =
-    let a = c.args in card_of a.edition a.card.now in
-    let known : GoodCard (cardAt) c.in-Good.k c.in-Good.m =
-    good _ _ _ (ap check_report (sym c.in-Good.is) ∙ c.check.ensures) in
-    let few : let k = c.in-Good.k in
-    let m = c.in-Good.m in
-    (1 ≤ k + m) × (k + m ≤ 32) =
-    let p = (known).columns in (omega (arith, p), omega (arith, p)) in
-    ((few).1, omega (arith, c.turn.ensures.1))
-
-pub returns-in-Bad : goal.returns-in-Bad
-returns-in-Bad c =
-    let e = ap check_report (sym c.in-Bad.is) ∙ c.check.ensures in
-    let a = c.args in
-    let f = c.in-Bad.fault in
-    let of = card_of a.edition a.card.now in
-    record { result_value = bad_report of a.l a.r a.stripe.now a.out.now f e; out_after = bad_back of a.l a.r a.stripe.now a.out.now f e }
-
-pub returns-in-Good : goal.returns-in-Good
-returns-in-Good c =
-    let cardAt : Card =
-    let a = c.args in card_of a.edition a.card.now in
-    let known : GoodCard (cardAt) c.in-Good.k c.in-Good.m =
-    good _ _ _ (ap check_report (sym c.in-Good.is) ∙ c.check.ensures) in
-    let few : let k = c.in-Good.k in
-    let m = c.in-Good.m in
-    (1 ≤ k + m) × (k + m ≤ 32) =
-    let p = (known).columns in (omega (arith, p), omega (arith, p)) in
-    let a = c.args in
-    let g = known in
-    let e : report c.turn_to.result ≡ turn_report (cardAt) a.l (length a.stripe.now) (length a.out.now) =
-    good_report (cardAt) a.l a.r a.stripe.now a.out.now _ _ g _ (c.turn_to.ensures.result_value _ (disks_are (cardAt) a.l a.r a.stripe.now a.out.now _ _ g)) in
-    record { result_value = e; out_after = good_back (cardAt) a.l a.r a.stripe.now a.out.now _ _ g _ e (few).0 _ _ c.turn.ensures.0 c.turn_to.ensures.out_after }
+pub returns : goal.returns
+unfolding disks
+returns c =
+    let code = c.in_ok-code.ensures in
+    let turn = c.of-turn in
+    let answer = good_report _ _ _ c.args.r _ _ _ code.value code.code _ (c.turn_to.ensures.answer _ (sym c.n-n.ensures.value)) in
+    let some : 1 ≤ disks c.in_ok-code.code = omega (arith, c.n-n.ensures.legal.0) in
+    record {
+      result_value = answer;
+      out_after = good_back _ _ _ _ _ _ _ code.value code.code _ answer some _ turn.result.by (rw c.n-n.ensures.value at turn.ensures.turn.0)
+          c.turn_to.ensures.out;
+    }

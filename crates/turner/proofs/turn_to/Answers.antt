@@ -13,7 +13,7 @@ use Rattle.turner.proofs.turn_to.Goals as goal
 
 pub returns-then-not-length_ok : goal.returns-then-not-length_ok
 unfolding unless_refused
-returns-then-not-length_ok c = record { result_value = λ C is. length-report _ _ _ _ C is (sym c.length_ok.ensures ∙ c.if-not-length_ok.true); out_after = refl }
+returns-then-not-length_ok c = record { answer = λ C is. length-report _ _ _ _ C is (sym c.length_ok.ensures ∙ c.if-not-length_ok.true); out = refl }
 
 pub overflow_mul-n : goal.overflow_mul-n
 overflow_mul-n c =
@@ -28,7 +28,7 @@ unfolding unless_refused
 returns-then-stripe-n c =
     let good_length : length_ok c.args.l ≡ true =
     sym c.length_ok.ensures ∙ c.if-not-length_ok.false in
-    record { result_value = λ C is. stripe-report _ _ _ _ C is (good_length) c.if-stripe-n.true; out_after = refl }
+    record { answer = λ C is. stripe-report _ _ _ _ C is (good_length) c.if-stripe-n.true; out = refl }
 
 pub overflow_mul-n-2 : goal.overflow_mul-n-2
 overflow_mul-n-2 c =
@@ -43,7 +43,7 @@ unfolding unless_refused
 returns-then-out-n c =
     let good_length : length_ok c.args.l ≡ true =
     sym c.length_ok.ensures ∙ c.if-not-length_ok.false in
-    record { result_value = λ C is. buffer_report _ _ _ _ C is (good_length) c.if-out-n.true; out_after = refl }
+    record { answer = λ C is. buffer_report _ _ _ _ C is (good_length) c.if-out-n.true; out = refl }
 
 pub overflow_mul-first : goal.overflow_mul-first
 overflow_mul-first c =
@@ -66,4 +66,4 @@ unfolding unless_refused
 returns c =
     let good_length : length_ok c.args.l ≡ true =
     sym c.length_ok.ensures ∙ c.if-not-length_ok.false in
-    record { result_value = λ C is. done-report _ _ _ _ C is (good_length) c.if-stripe-n.false c.if-out-n.false; out_after = c.copy_cut.ensures }
+    record { answer = λ C is. done-report _ _ _ _ C is (good_length) c.if-stripe-n.false c.if-out-n.false; out = c.copy_cut.ensures }

@@ -1,41 +1,21 @@
--- `bridgecrumb::records::bridgecrumb_record_read` meets its contract: fields and columns are written where the file is accepted.
--- Assumes nothing.
-use mathlib.Core.Path.{◌≡◌, sym, ap, ◌∙◌}
-use mathlib.Core.List.{[], ◌∷◌}
-use Rattle.flat.specs.Faults.{accepted}
-use Rattle.record_format.specs.Faults.{record_report}
-use Rattle.record_reader.specs.Reports.{record_fault_report, report as record_check_report}
-use Rattle.record_reader.proofs.Callers.{unless_bad}
-use Rattle.export_bounds.specs.Coded.{coded}
-use Rattle.flat.specs.Faults.{unless_refused}
-use Rattle.export_bounds.proofs.RecordValues.{record_fits}
-use Rattle.bridgecrumb.proofs.Arrays.{read, unread}
+-- `bridgecrumb::records::bridgecrumb_record_read` meets its contract: fields and columns are written where the file is accepted. Assumes nothing.
+use Rattle.bridgecrumb.proofs.Arrays.{no_code, values_taken, read_taken, record_code, record_kept}
 use Rattle.bridgecrumb.proofs.records.bridgecrumb_record_read.Goals as goal
 
-pub record_fault_code-requires : goal.record_fault_code-requires
-record_fault_code-requires c =
-    let bad : record_fault_report c.in-Bad.fault ≡ record_report c.args.file.now =
-    ap record_check_report (sym c.in-Bad.is) ∙ c.read-read.ensures.0 in
-    rw (bad) (record_fits _)
+pub returns-in-Ok-clause-value : goal.returns-in-Ok-clause-value
+returns-in-Ok-clause-value c = no_code _ _ c.in-Ok.ensures.counts
 
-pub returns-in-Good : goal.returns-in-Good
-returns-in-Good c =
-    let good : accepted (c.in-Good.k ∷ c.in-Good.m ∷ c.in-Good.l ∷ c.in-Good.lost ∷ []) ≡ record_report c.args.file.now =
-    ap record_check_report (sym c.in-Good.is) ∙ c.read-read.ensures.0 in
-    record {
-      value = (read _ [] [] [] _ good).0;
-      fields_after = (read _ [] _ [] _ good).1.0;
-      columns_after = rw c.read-read.ensures.1 (read _ _ [] _ _ good).1.1;
-    }
+pub returns-in-Ok-clause-fields_after : goal.returns-in-Ok-clause-fields_after
+returns-in-Ok-clause-fields_after c = values_taken _ _ _ c.in-Ok.ensures.counts
 
-pub returns-in-Bad : goal.returns-in-Bad
-returns-in-Bad c =
-    let bad : record_fault_report c.in-Bad.fault ≡ record_report c.args.file.now =
-    ap record_check_report (sym c.in-Bad.is) ∙ c.read-read.ensures.0 in
-    let code = c.record_fault_code.ensures ∙ ap coded bad in
-    let refuses : (A : Type 0) (a b : A) → unless_refused (record_report c.args.file.now) a b ≡ b = λ A a b. unless_bad c.in-Bad.fault _ a b bad in
-    record {
-      value = (unread _ [] [] [] _ code refuses).0;
-      fields_after = (unread _ [] _ [] _ code refuses).1.0;
-      columns_after = (unread _ _ [] _ _ code refuses).1.1;
-    }
+pub returns-in-Ok-clause-columns_after : goal.returns-in-Ok-clause-columns_after
+returns-in-Ok-clause-columns_after c = read_taken _ _ _ _ _ c.in-Ok.ensures.counts c.in-Ok.ensures.columns
+
+pub returns-in-Err-clause-value : goal.returns-in-Err-clause-value
+returns-in-Err-clause-value c = record_code _ _ c.in-Err.fault c.in-Err.ensures.fault c.record_fault_code.ensures
+
+pub returns-in-Err-clause-fields_after : goal.returns-in-Err-clause-fields_after
+returns-in-Err-clause-fields_after c = record_kept _ _ _ c.in-Err.fault c.in-Err.ensures.fault
+
+pub returns-in-Err-clause-columns_after : goal.returns-in-Err-clause-columns_after
+returns-in-Err-clause-columns_after c = record_kept _ _ _ c.in-Err.fault c.in-Err.ensures.fault

@@ -6,4 +6,4 @@ use Rattle.record_writer.proofs.Runs.{Laid}
 use Rattle.record_writer.proofs.parts.put_bodies.Given as goal
 
 abbrev pub invariant-loop-i : goal.invariant-loop-i
-invariant-loop-i l = (l.i ≤ l.n) × Laid (strip_body l.l l.lost l.stripe) l.initial.out l.start l.i l.out
+invariant-loop-i l = (l.i ≤ l.n) × Laid (strip_body l.layout.l l.layout.lost l.stripe) l.initial.out l.layout.start l.i l.out

@@ -6,4 +6,4 @@ use Rattle.record_writer.proofs.Runs.{Laid}
 use Rattle.record_writer.proofs.parts.put_entries.Given as goal
 
 abbrev pub invariant-loop-i : goal.invariant-loop-i
-invariant-loop-i l = (l.i ≤ l.n) × Laid (strip_entry l.start l.l l.lost) l.initial.out 20 l.i l.out
+invariant-loop-i l = (l.i ≤ l.n) × Laid (strip_entry l.layout.start l.layout.l l.layout.lost) l.initial.out 20 l.i l.out

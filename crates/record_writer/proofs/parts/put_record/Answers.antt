@@ -2,55 +2,19 @@
 -- Assumes nothing.
 use mathlib.Core.Path.{◌≡◌, ap, ap₂, ◌∙◌}
 use mathlib.Core.List.{List}
-use Prim.Native.Nat.{ℕ, ◌+◌, ◌*◌, ◌≤◌}
+use Prim.Native.Nat.{ℕ, ◌+◌, ◌*◌}
 use native.Mathlib.Omega.{arith}
 use lib.ListN.{length}
 use Rattle.flat.specs.Lists.{range, each}
 use Rattle.record_format.specs.Records.{mark, entry, strip_body, strip_entry}
 use Rattle.flat.specs.Lists.{put}
-use Rattle.record_writer.proofs.Recorded.{sizes_of, strips-at, room, record_put}
-use borrow.Author.Rules.{rules}
+use Rattle.record_writer.proofs.Recorded.{sizes_of, strips-at, record_put}
 use Rattle.record_writer.proofs.parts.put_record.Goals as goal
-
-pub copy-requires : goal.copy-requires
-copy-requires c =
-    let room_at : let a = c.args in
-    20 + 10 * a.n + length a.card.now ≤ length a.out.now =
-    let a = c.args in room a.card.now a.n a.l a.lost a.out.now c.requires.4 in
-    omega (arith, room_at)
-
-pub copy-requires-2 : goal.copy-requires-2
-copy-requires-2 c =
-    let room_at : let a = c.args in
-    20 + 10 * a.n + length a.card.now ≤ length a.out.now =
-    let a = c.args in room a.card.now a.n a.l a.lost a.out.now c.requires.4 in
-    omega (arith, room_at)
-
-pub copy-requires-3 : goal.copy-requires-3
-copy-requires-3 c =
-    let room_at : let a = c.args in
-    20 + 10 * a.n + length a.card.now ≤ length a.out.now =
-    let a = c.args in room a.card.now a.n a.l a.lost a.out.now c.requires.4 in
-    omega (arith, room_at)
-
-pub put_entries-requires : goal.put_entries-requires
-put_entries-requires c =
-    let room_at : let a = c.args in
-    20 + 10 * a.n + length a.card.now ≤ length a.out.now =
-    let a = c.args in room a.card.now a.n a.l a.lost a.out.now c.requires.4 in
-    (search rules, search rules, search rules, omega (arith, room_at))
-
-pub copy-requires-4 : goal.copy-requires-4
-copy-requires-4 c =
-    let room_at : let a = c.args in
-    20 + 10 * a.n + length a.card.now ≤ length a.out.now =
-    let a = c.args in room a.card.now a.n a.l a.lost a.out.now c.requires.4 in
-    omega (arith, room_at)
 
 pub put_bodies-requires : goal.put_bodies-requires
 put_bodies-requires c =
     let pre = c.requires in
-    (omega (arith, pre.0, pre.2), pre.1, pre.0, pre.3, rw (strips-at _ _) (omega (arith, pre.4)))
+    (pre.0, pre.3, rw (strips-at _ _) (omega (arith, pre.4)))
 
 pub returns : goal.returns
 returns c =
@@ -60,7 +24,7 @@ returns c =
     c.copy-3.ensures
     ∙ ap₂ (λ (x y : List ℕ). put x 10 y)
     (c.copy-2.ensures ∙ ap₂ (λ (x y : List ℕ). put x 4 y) c.copy.ensures c.sizes-sizes.ensures)
-    c.entry-entry.ensures in
+    (rw c.number.ensures at c.entry-entry.ensures) in
     let a = c.args in
     let bodies = 20 + 10 * a.n in
     let entries = each (strip_entry (bodies + length a.card.now) a.l a.lost) (range 0 a.n) in

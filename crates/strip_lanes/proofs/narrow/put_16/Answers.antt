@@ -4,21 +4,15 @@ use mathlib.Core.Path.{◌≡◌, sym}
 use native.Mathlib.Omega.{arith}
 use lib.ListN.{length-drop}
 use lib.Seq.{get_or-drop}
-use Rattle.strip_blocks.proofs.Loops.{copied_none, copied_more, copied_first}
+use Rattle.strip_blocks.proofs.Loops.{copied_more, copied_first}
 use borrow.Author.Rules.{rules}
 use Rattle.strip_lanes.proofs.narrow.put_16.Goals as goal
-
-pub loop-t-init : goal.loop-t-init
-loop-t-init c = (search rules, copied_none _ _ _)
 
 pub loop-t-preserved : goal.loop-t-preserved
 loop-t-preserved c =
     let lp = c.loop-t in
     let a = c.args in
     (search rules, copied_more _ _ _ _ _ _ lp.invariant.1 (search rules) (omega (arith, length-drop a.from a.sums.now)) (sym (get_or-drop a.from a.sums.now lp.t 0)))
-
-pub shape_of-s : goal.shape_of-s
-shape_of-s c = c.loop-t.invariant.1.long
 
 pub returns : goal.returns
 returns c =

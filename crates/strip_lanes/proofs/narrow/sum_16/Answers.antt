@@ -13,7 +13,7 @@ use borrow.Author.Rules.{rules}
 use Rattle.strip_lanes.proofs.narrow.sum_16.Goals as goal
 
 pub loop-i-init : goal.loop-i-init
-loop-i-init c = (search rules, run_there _ _ _ 16 (λ u h. c.requires.sums_len.2 u h ∙ sym (parity-none _ _ _ _ _)))
+loop-i-init c = (search rules, run_there _ _ _ 16 (λ u h. c.requires.zeros.1 u h ∙ sym (parity-none _ _ _ _ _)))
 
 pub overflow_mul-i : goal.overflow_mul-i
 overflow_mul-i c =
@@ -31,17 +31,15 @@ pub add_16-requires : goal.add_16-requires
 add_16-requires c =
     let inside : let a = c.args in c.loop-i.i * a.l + a.l ≤ a.k * a.l =
     let a = c.args in strip-within c.loop-i.i a.k a.l (omega arith) in
-    let lp = c.loop-i in
-    let n = c.requires in
-    (lp.invariant.1.long ∙ n.sums_len.0, search rules, omega (arith, inside), n.k_bound.4 _)
+    (search rules, omega (arith, inside), c.at.ensures.is_bit)
 
 pub loop-i-preserved : goal.loop-i-preserved
 loop-i-preserved c =
     let lp = c.loop-i in
     let a = c.args in (
       search rules,
-      joined-again _ _ 16 _ _ (λ t. get_or a.s.now (lp.i * a.l + a.o + t) 0 * get_or a.bits.now (lp.i * 16 + a.j) 0) _ _ lp.invariant.1 (search rules) c.add_16.ensures
-          (λ u h. parity-more lp.i a.l a.bits.now a.s.now a.j a.o u),
+      joined-again _ _ 16 _ _ (λ t. get_or a.s.now (lp.i * a.l + a.o + t) 0 * c.at.result) _ _ lp.invariant.1 (search rules) c.add_16.ensures
+          (λ u h. rw c.at.ensures.place (parity-more lp.i a.l a.bits.now a.s.now a.j a.o u)),
     )
 
 pub returns : goal.returns
@@ -49,4 +47,8 @@ returns c =
     let lp = c.loop-i in
     let a = c.args in
     let e : lp.i ≡ a.k = search rules in
-    record { sums_len_2 = (lp.invariant.1.long ∙ c.requires.sums_len.0, λ t h. lp.invariant.1.new t h ∙ ap (λ (n : ℕ). parity_byte n a.l a.bits.now a.s.now a.j (a.o + t)) e); by_index = (lp.invariant.1.before, lp.invariant.1.after) }
+    record {
+      long = search rules;
+      sums = λ t h. lp.invariant.1.new t h ∙ ap (λ (n : ℕ). parity_byte n a.l a.bits.now a.s.now a.j (a.o + t)) e;
+      kept = (lp.invariant.1.before, lp.invariant.1.after);
+    }

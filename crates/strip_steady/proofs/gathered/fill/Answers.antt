@@ -1,42 +1,29 @@
--- `strip_steady::gathered::fill` meets its contract: the bytes below o of the parity strips are made.
+-- `strip_steady::gathered::fill` meets its contract: the bytes of the parity strips below the next block are made.
 -- Assumes nothing.
-use mathlib.Core.Path.{◌≡◌, sym, ◌∙◌}
-use Prim.Native.Nat.{◌+◌, ◌*◌, ◌≤◌}
-use native.Mathlib.Nat.{mul-le-mul_right}
+use mathlib.Core.Path.{◌≡◌, subst}
+use Prim.Native.Nat.{ℕ, ◌+◌, ◌-◌, ◌*◌}
 use native.Mathlib.Omega.{arith}
-use Rattle.strip_steady.proofs.Offsets.{offsets_none, offsets_more, offsets_all}
+use Rattle.std.specs.Prelude.{min}
+use Rattle.strip_steady.proofs.Offsets.{OffsetsTo, offsets_more, offsets_all}
 use borrow.Author.Rules.{rules}
 use Rattle.strip_steady.proofs.gathered.fill.Goals as goal
 
-pub loop-o-init : goal.loop-o-init
-loop-o-init c = let a = c.args in (search rules, search rules, offsets_none a.k a.l a.m a.bits.now a.s.now)
-
-pub gather-requires : goal.gather-requires
-gather-requires c =
+pub loop-b-preserved : goal.loop-b-preserved
+loop-b-preserved c =
     let a = c.args in
-    let w : a.k * a.l ≤ (a.k + a.m) * a.l = mul-le-mul_right a.l (omega arith) in
-    (search rules, search rules, search rules, omega (arith, w, c.loop-o.invariant.2.long))
-
-pub fill_block-requires : goal.fill_block-requires
-fill_block-requires c =
-    let n = c.requires in
-    (search rules, search rules, omega (arith, c.gather.ensures.local_len), search rules, n.3 ∙ sym c.loop-o.invariant.2.long, search rules, c.lanes_of-lanes.ensures.bits)
-
-pub loop-o-preserved : goal.loop-o-preserved
-loop-o-preserved c =
-    let a = c.args in (
-      search rules,
+    let lp = c.loop-b in
+    let q = c.block_start-start.result in
+    let start : q ≡ min (lp.b * 128) (a.l - 128) = c.block_start-start.ensures in
+    let end : q + 128 ≡ min ((lp.b + 1) * 128) a.l = omega (arith, start) in (
       c.gather.ensures.local_len,
-      offsets_more a.k a.l a.m a.bits.now a.s.now c.loop-o.o _ c.loop-o.s _ _ c.lanes_of-lanes.result c.loop-o.invariant.2 (search rules) (search rules)
-          c.gather.ensures.by_index c.lanes_of-lanes.ensures.by_index c.fill_block.ensures,
+      subst (λ (x : ℕ). OffsetsTo a.k a.l a.m a.bits.now a.s.now x c.fill_block.new.s) end
+          (offsets_more a.k a.l a.m a.bits.now a.s.now (min (lp.b * 128) a.l) q lp.s _ _ c.lanes_of-lanes.result lp.invariant.1 (omega (arith, start)) (search rules)
+          c.gather.ensures.by_index c.lanes_of-lanes.ensures c.fill_block.ensures),
     )
-
-pub shape_of-s : goal.shape_of-s
-shape_of-s c = c.loop-o.invariant.2.long
 
 pub returns : goal.returns
 returns c =
-    let lp = c.loop-o in
+    let lp = c.loop-b in
     let a = c.args in
-    let e : lp.o ≡ a.l = search rules in
-    offsets_all a.k a.l a.m a.bits.now a.s.now lp.o lp.s lp.invariant.2 e (search rules)
+    let e : min (lp.b * 128) a.l ≡ a.l = omega (arith, c.div_ceil-b-end.ensures) in
+    offsets_all a.k a.l a.m a.bits.now a.s.now (min (lp.b * 128) a.l) lp.s lp.invariant.1 e (search rules)

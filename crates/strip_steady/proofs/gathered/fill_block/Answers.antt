@@ -13,33 +13,12 @@ loop-j-init c =
     let a = c.args in
     (search rules, blocks-none a.k a.l a.local.now a.lanes.now a.o a.s.now)
 
-pub overflow_mul-k : goal.overflow_mul-k
-overflow_mul-k c =
-    let inside : let a = c.args in (a.k + c.loop-j.j) * a.l + a.l ≤ (a.k + a.m) * a.l =
-    let a = c.args in strip-within (a.k + c.loop-j.j) (a.k + a.m) a.l (omega arith) in
-    omega (arith, inside)
-
-pub overflow_add-k-in-loop-j : goal.overflow_add-k-in-loop-j
-overflow_add-k-in-loop-j c =
-    let inside : let a = c.args in (a.k + c.loop-j.j) * a.l + a.l ≤ (a.k + a.m) * a.l =
-    let a = c.args in strip-within (a.k + c.loop-j.j) (a.k + a.m) a.l (omega arith) in
-    omega (arith, inside)
-
-pub put-requires : goal.put-requires
-put-requires c =
-    let inside : let a = c.args in (a.k + c.loop-j.j) * a.l + a.l ≤ (a.k + a.m) * a.l =
-    let a = c.args in strip-within (a.k + c.loop-j.j) (a.k + a.m) a.l (omega arith) in
-    omega (arith, inside, c.loop-j.invariant.1.long)
-
 pub loop-j-preserved : goal.loop-j-preserved
 loop-j-preserved c =
     let inside : let a = c.args in (a.k + c.loop-j.j) * a.l + a.l ≤ (a.k + a.m) * a.l =
     let a = c.args in strip-within (a.k + c.loop-j.j) (a.k + a.m) a.l (omega arith) in
     let a = c.args in
-    (search rules, blocks_more a.k a.l a.local.now a.lanes.now a.o a.s.now _ _ _ _ c.loop-j.invariant.1 (search rules) (omega (arith, inside)) c.sum-block.ensures c.put.ensures)
-
-pub shape_of-s : goal.shape_of-s
-shape_of-s c = c.loop-j.invariant.1.long
+    (search rules, blocks_more a.k a.l a.local.now a.lanes.now a.o a.s.now _ _ _ _ _ c.loop-j.invariant.1 (search rules) (search rules) (search rules) (omega (arith, inside)) c.sum-block.ensures c.put.ensures)
 
 pub returns : goal.returns
 returns c =

@@ -1,31 +1,19 @@
 -- `text::decimals::numbers_length` meets its contract: after i turns the sum is the length of the first i pieces.
 -- Assumes nothing.
-use mathlib.Core.Path.{◌≡◌, sym, ap, ◌∙◌}
-use mathlib.Core.List.{List}
-use Prim.Native.Nat.{ℕ, ◌<◌}
+use mathlib.Core.Path.{sym, ap}
 use native.Mathlib.Omega.{arith}
-use borrow.Author.Rules.{rules}
-use lib.ListN.{length, get_or, take}
-use lib.Seq.{take-length}
-use Rattle.flat.specs.Lists.{each}
+use lib.ListN.{length, get_or}
 use Rattle.text.specs.Decimal.{spaced}
-use Rattle.text.proofs.Digits.{length-spaced}
 use Rattle.text.proofs.Pieces.{each_none, length_more}
+use Rattle.text.proofs.Digits.{length-spaced}
 use Rattle.text.proofs.decimals.numbers_length.Goals as goal
 
-pub loop-i-init : goal.loop-i-init
-loop-i-init c = (search rules, ap length (sym (each_none spaced)), search rules)
+pub loop-number-init : goal.loop-number-init
+loop-number-init c = (ap length (sym (each_none spaced)), omega arith)
 
-pub loop-i-preserved : goal.loop-i-preserved
-loop-i-preserved c =
-    let l = c.loop-i in
+pub loop-number-preserved : goal.loop-number-preserved
+loop-number-preserved c =
+    let i = c.loop-number.number-index in
     let xs = c.args.numbers.now in
-    let h : l.i < length xs = search rules in
-    (search rules, omega (arith, length_more spaced xs l.i h, length-spaced (get_or xs l.i 0)), search rules)
-
-pub returns : goal.returns
-returns c =
-    let l = c.loop-i in
-    let xs = c.args.numbers.now in
-    let e : l.i ≡ length xs = omega arith in
-    (l.invariant.1 ∙ ap (λ (ys : List ℕ). length (each spaced ys)) (ap (λ (n : ℕ). take n xs) e ∙ take-length xs), search rules)
+    let next = length_more spaced xs i c.loop-number-test.true in
+    (omega (arith, next, length-spaced (get_or xs i 0)), omega arith)

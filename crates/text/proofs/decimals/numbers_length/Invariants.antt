@@ -7,5 +7,5 @@ use Rattle.flat.specs.Lists.{each}
 use Rattle.text.specs.Decimal.{spaced}
 use Rattle.text.proofs.decimals.numbers_length.Given as goal
 
-abbrev pub invariant-loop-i : goal.invariant-loop-i
-invariant-loop-i l = (l.i ≤ length l.numbers) × (l.sum ≡ length (each spaced (take l.i l.numbers))) × (l.sum ≤ 21 * l.i)
+abbrev pub invariant-loop-number : goal.invariant-loop-number
+invariant-loop-number l = (l.sum ≡ length (each spaced (take l.number-index l.numbers))) × (l.sum ≤ 21 * l.number-index)

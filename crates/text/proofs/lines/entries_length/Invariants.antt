@@ -7,5 +7,5 @@ use Rattle.flat.specs.Lists.{each}
 use Rattle.text.specs.Lines.{entry_line}
 use Rattle.text.proofs.lines.entries_length.Given as goal
 
-abbrev pub invariant-loop-i : goal.invariant-loop-i
-invariant-loop-i l = (l.i ≤ length l.entries) × (l.sum ≡ length (each entry_line (take l.i l.entries))) × (l.sum ≤ 42 * l.i)
+abbrev pub invariant-loop-set : goal.invariant-loop-set
+invariant-loop-set l = (l.sum ≡ length (each entry_line (take l.set-index l.entries))) × (l.sum ≤ 42 * l.set-index)

@@ -1,4 +1,0 @@
-use Rattle.stepped_sets.proofs.+binomials.Given as goal
-
-abbrev pub decreases-binomials : goal.decreases-binomials
-decreases-binomials l = l.n

@@ -1,9 +1,0 @@
--- `strip_blocks::is_zero` meets its contract: the OR of the bytes so far is 0 where each of them is.
--- Assumes nothing.
-use Prim.Native.Nat.{◌≤◌}
-use lib.ListN.{get_or}
-use Rattle.strip_blocks.proofs.Loops.{Any}
-use Rattle.strip_blocks.proofs.is_zero.Given as goal
-
-abbrev pub invariant-loop-t : goal.invariant-loop-t
-invariant-loop-t l = (l.t ≤ 128) × Any (λ j. get_or l.block j 0) l.t l.any

@@ -1,8 +1,0 @@
--- `strip_blocks::narrow::copy_first` meets its contract: a copy is made byte by byte.
--- Assumes nothing.
-use Prim.Native.Nat.{◌≤◌}
-use Rattle.strip_blocks.proofs.Loops.{Copied}
-use Rattle.strip_blocks.proofs.narrow.copy_first.Given as goal
-
-abbrev pub invariant-loop-t : goal.invariant-loop-t
-invariant-loop-t l = (l.t ≤ l.count) × Copied l.initial.local l.s 0 l.t l.local

@@ -1,8 +1,0 @@
--- `strip_lanes::splat` meets its contract: the bit is stored lane by lane.
--- Assumes nothing.
-use Prim.Native.Nat.{◌≤◌}
-use Rattle.strip_blocks.proofs.Runs.{Run}
-use Rattle.strip_lanes.proofs.splat.Given as goal
-
-abbrev pub invariant-loop-t : goal.invariant-loop-t
-invariant-loop-t l = (l.t ≤ 16) × Run l.initial.lanes l.at (λ u. l.bit) l.t l.lanes
