@@ -5,11 +5,13 @@ use mathlib.Core.Bool.{Bool}
 use borrow.Author.Tests.{eq-eqb}
 use lib.Dec.{T, eqb}
 use lib.ListN.{get_or}
-use Rattle.std.specs.Prelude.{if◌then◌else◌, Ok, Err}
+use Rattle.std.specs.Prelude.{if◌then◌else◌, Result, Ok, Err}
+use Rattle.flat.specs.Cards.{Code}
 use Rattle.flat.specs.Faults.{Report}
+use Rattle.card.specs.declared.Counts.{Counts}
 use Rattle.card.specs.declared.CardFault.{CardFault}
-use Rattle.card.specs.Reports.{fault_report}
-use Rattle.card.specs.Theorems.{FaultInjective, CheckInjective}
+use Rattle.card.specs.Reports.{fault_report, counts_report}
+use Rattle.card.specs.Theorems.{FaultInjective, CheckInjective, CheckFixed, CountsInjective}
 use Rattle.card.proofs.Laws.{fault_of, fault-back, fault_refuses}
 
 -- an answer that carries a card's fault, where the number is that of a fault, else another
@@ -32,3 +34,19 @@ check_injective (Ok A) (Ok B) e = (ap (λ (x : Report). get_or x.values 0 0) e, 
 check_injective (Ok A) (Err f) e = no_fault f _ (sym e) refl
 check_injective (Err f) (Ok B) e = absurd (no_fault f _ e refl)
 check_injective (Err f) (Err g) e = ap Err (fault_injective g f (sym e))
+
+pub check_fixed : CheckFixed
+check_fixed C (Ok A) (Ok B) e f g = ap (λ (D : Code). Ok D) (f ∙ sym g)
+check_fixed C (Ok A) (Err f) e _ _ = absurd (no_fault f _ (sym e) refl)
+check_fixed C (Err f) (Ok B) e _ _ = absurd (no_fault f _ e refl)
+check_fixed C (Err f) (Err g) e _ _ = ap Err (fault_injective f g e)
+
+abbrev counts_from : Report → Result Counts CardFault
+counts_from r = carried r (λ f. Err f) (Ok (record { k = get_or r.values 0 0; m = get_or r.values 1 0 }))
+
+counts_back : (a : Result Counts CardFault) → counts_from (counts_report a) ≡ a
+counts_back (Ok counts) = refl
+counts_back (Err f) = carried-back f (λ g. Err g) _
+
+pub counts_injective : CountsInjective
+counts_injective a b e = sym (counts_back a) ∙ ap counts_from e ∙ counts_back b

@@ -3,6 +3,7 @@
 use Rattle.std.specs.Prelude.{[], ◌∷◌, Result, Ok, Err}
 use Rattle.flat.specs.Cards.{Code}
 use Rattle.flat.specs.Faults.{Report, accepted, refused}
+use Rattle.card.specs.declared.Counts.{Counts}
 use Rattle.card.specs.declared.CardFault.{CardFault}
 use Rattle.card.specs.declared.CardFault.TheVariants.{Short, FirstByte, DataCount, ParityCount, Length, Column, ZeroWear}
 
@@ -20,3 +21,8 @@ fault_report ZeroWear = refused 23 []
 abbrev pub report : Result Code CardFault → Report
 report (Ok code) = accepted (code.k ∷ code.m ∷ [])
 report (Err f) = fault_report f
+
+-- the counts alone, as `disk_counts` answers them, or the card's fault
+abbrev pub counts_report : Result Counts CardFault → Report
+counts_report (Ok counts) = accepted (counts.k ∷ counts.m ∷ [])
+counts_report (Err f) = fault_report f

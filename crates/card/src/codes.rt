@@ -8,11 +8,11 @@ ghost use Rattle.flat.specs.Cards.{disks, column, code_in};
 ghost use Rattle.card.specs.Columns.{Columns};
 ghost use Rattle.card.specs.Codes.{Legal};
 
-use crate::columns::column_at;
+use crate::{Counts, column_bytes};
 use std::marker::Model;
 
 // The code of k data disks and m parity disks.
-#[derive(Drop)]
+#[derive(Clone, Drop)]
 pub struct Code<'a> {
     columns: &'a [u8],
     k: usize,
@@ -64,13 +64,22 @@ impl<'a> Code<'a> {
         self.k + self.m
     }
 
+    // Both counts, without the columns: they hold no loan of the card.
+    pub fn counts(&self) -> Counts
+        ensures k { result.k ≡ self.now.k }
+        ensures m { result.m ≡ self.now.m }
+    {
+        let Code { k, m, .. } = *self;
+        Counts { k, m }
+    }
+
     // The column of parity disk k + j.
     pub fn column(&self, j: usize) -> u16
         requires { j < self.now.m }
         ensures value { result ≡ column self.now j }
         ensures legal { Legal self.now }
     {
-        column_at(self.columns, j)
+        column_bytes::column(self.columns, j)
     }
 
     // The m columns, then zeros.

@@ -1,12 +1,13 @@
 // Cards: the bytes that describe a code, k, m, then m columns of two bytes, low byte first. In the second
 // edition a byte 0x02 comes before them, and a wear for each disk after them. The check that every call
-// makes of a card, its faults with their numbers, the card reader, the tests of counts and columns that the
-// card writer shares, and the test of a strip length, which goes with a card in every call that takes strips.
-// What the check answers for a good card is its code (module `codes`). Where the parts of an edition stand,
-// those who read a card learn from module `editions` alone.
+// makes of a card, its faults with their numbers, the part that the columns stand in, the card reader, one
+// column out of the bytes, the tests of counts and columns that the card writer shares, and the test of a
+// strip length, which goes with a card in every call that takes strips. What the check answers for a good
+// card is its code (module `codes`), or its counts alone. Where the parts of an edition stand, those who read
+// a card learn from module `editions` alone.
 //
-// Every byte string is a legal argument of `check` and `read`, in either edition. What is answered for which
-// input is said in flat/specs/Faults.antt.
+// Every byte string is a legal argument of `check`, `disk_counts` and `read`, in either edition. What is
+// answered for which input is said in flat/specs/Faults.antt.
 #![tactic(auto)]
 
 ghost use Rattle.std.specs.Prelude.{◌≡◌, ◌∷◌, [], get_or, IfOk, IfErr};
@@ -15,15 +16,15 @@ ghost use Rattle.flat.specs.Strips.{length_ok};
 ghost use Rattle.flat.specs.Faults.{accepted, card_report, card_columns, card_wears};
 ghost use Rattle.card.specs.Codes.{Legal};
 ghost use Rattle.card.specs.Editions.{Counted, Worn};
-ghost use Rattle.card.specs.Reports.{fault_report, report};
+ghost use Rattle.card.specs.Reports.{fault_report, report, counts_report};
 
 mod codes;
-mod columns;
+mod column_bytes;
 mod editions;
 
 pub use codes::Code;
-pub use columns::first_bad;
-pub use editions::{length, wear_count, wears};
+pub use column_bytes::{column, first_bad};
+pub use editions::{columns, has_zero, length, wear_count, wears};
 pub use flat::Edition;
 
 // A fault of whoever wrote the card. Column names the first column that is 0 or has a bit at k or above.
@@ -66,6 +67,13 @@ impl CardFault {
     }
 }
 
+// How many data disks and parity disks a good card has.
+#[derive(Clone, Copy, Debug, PartialEq, Eq)]
+pub struct Counts {
+    pub k: usize,
+    pub m: usize,
+}
+
 // What the card reader reads from a good card. The columns stand in the first m places and the wears of the
 // disks in the first k + m; the others are 0.
 #[derive(Clone, Copy)]
@@ -93,7 +101,7 @@ pub fn length_ok(l: usize) -> bool
 }
 
 // The counts that a card begins with, where they may be those of a code.
-fn counts(edition: Edition, card: &[u8]) -> Result<(usize, usize), CardFault>
+fn first_counts(edition: Edition, card: &[u8]) -> Result<(usize, usize), CardFault>
     ensures counted { IfOk result (λ counts. Counted (card_of edition card.now) counts.0 counts.1) }
     ensures fault { IfErr result (λ fault. fault_report fault ≡ card_report (card_of edition card.now)) }
 {
@@ -124,18 +132,26 @@ pub fn check(edition: Edition, card: &[u8]) -> Result<Code<'_>, CardFault>
     ensures legal { IfOk result (λ code. Legal code) }
     ensures worn { IfOk result (λ code. Worn (card_of edition card.now) (disks code)) }
 {
-    let (k, m) = counts(edition, card)?;
+    let (k, m) = first_counts(edition, card)?;
     if card.len() != length(edition, k, m) {
         return Err(CardFault::Length);
     }
     let columns = editions::columns(edition, card);
-    if let Some(bad) = columns::first_bad_in(k, m, columns) {
+    if let Some(bad) = column_bytes::first_bad_in(k, m, columns) {
         return Err(CardFault::Column(bad));
     }
     if editions::has_zero(editions::held(edition, card)) {
         return Err(CardFault::ZeroWear);
     }
     Ok(Code::new(columns, k, m))
+}
+
+// The check alone: of how many disks the card is, or its fault. The answer holds no loan of the card.
+pub fn disk_counts(edition: Edition, card: &[u8]) -> Result<Counts, CardFault>
+    ensures { counts_report result ≡ card_report (card_of edition card.now) }
+{
+    let found = check(edition, card)?;
+    Ok(found.counts())
 }
 
 // The card reader: k, m, the columns and the wears of a good card, or its fault.

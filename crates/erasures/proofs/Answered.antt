@@ -17,7 +17,7 @@ use Rattle.card.proofs.Laws.{unless_fault}
 use Rattle.card.proofs.Callers.{good_with, bad_card}
 use Rattle.erasures.specs.declared.Listing.{Listing}
 use Rattle.erasures.specs.declared.ListError.{ListError}
-use Rattle.erasures.specs.Reports.{report}
+use Rattle.erasures.specs.Reports.{report, counted}
 
 module _ (e : Edition) (bs slice : List ℕ) where
   module _ (f : CardFault) (value : check_report (Err f) ≡ card_report (card_of e bs)) where
@@ -35,7 +35,7 @@ module _ (e : Edition) (bs slice : List ℕ) where
     unfolding erasures_report
     good_report r value h = good_with e bs (λ D. list_report (erasures D) (length slice)) C r value is h
 
-    pub good_vector : (answer : Result Listing ListError) → report answer ≡ erasures_report (card_of e bs) (length slice)
+    pub good_vector : (answer : Result Listing ListError) → report (counted answer) ≡ erasures_report (card_of e bs) (length slice)
         → IfOk answer (λ listing. listing.vector ≡ padded 17 (vector C))
         → IfOk answer (λ listing. listing.vector ≡ erasures_vector (card_of e bs) (length slice))
     unfolding erasures_vector

@@ -11,7 +11,7 @@ ghost use Rattle.flat.specs.Erasures.{erasures, vector};
 ghost use Rattle.flat.specs.Faults.{unless_refused, list_report, list_slice, erasures_report, erasures_vector, erasures_slice};
 ghost use Rattle.minimal_words.specs.Listed.{sizes};
 ghost use Rattle.erasures.specs.declared.ListError.TheVariants.{Card};
-ghost use Rattle.erasures.specs.Reports.{report};
+ghost use Rattle.erasures.specs.Reports.{report, counted};
 
 use card::{CardFault, Code, Edition};
 use minimal_marks::{KEYS, Marks, SIZES};
@@ -55,9 +55,9 @@ fn vector(counts: [usize; KEYS], m: usize) -> [usize; 17]
 
 // The lister, for the code of an accepted card: nothing is written before the count is known.
 fn list_code(code: &Code<'_>, out: &mut [u32]) -> Result<Listing, ListError>
-    ensures answer_value { report result ≡ list_report (erasures code.now) (length out.old) }
+    ensures answer_value { report (counted result) ≡ list_report (erasures code.now) (length out.old) }
     ensures vector_value { IfOk result (λ listing. listing.vector ≡ padded 17 (vector code.now)) }
-    ensures out_after { out.new ≡ unless_refused (report result) (list_slice (erasures code.now) out.old) out.old }
+    ensures out_after { out.new ≡ unless_refused (report (counted result)) (list_slice (erasures code.now) out.old) out.old }
 {
     let basis = bases::rows(code);
     let mut marks = Marks::new();
@@ -74,7 +74,7 @@ fn list_code(code: &Code<'_>, out: &mut [u32]) -> Result<Listing, ListError>
 
 // The lister: all minimal erasures into the slice, smaller size first, then smaller data part.
 pub fn list(edition: Edition, card: &[u8], out: &mut [u32]) -> Result<Listing, ListError>
-    ensures answer_value { report result ≡ erasures_report (card_of edition card.now) (length out.old) }
+    ensures answer_value { report (counted result) ≡ erasures_report (card_of edition card.now) (length out.old) }
     ensures vector_value { IfOk result (λ listing. listing.vector ≡ erasures_vector (card_of edition card.now) (length out.old)) }
     ensures out_after { out.new ≡ erasures_slice (card_of edition card.now) out.old }
 {

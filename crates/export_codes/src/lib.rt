@@ -11,7 +11,7 @@ ghost use Rattle.card.specs.Reports.{fault_report};
 ghost use Rattle.card_writer.specs.Reports.{report as written_report};
 ghost use Rattle.verdicts.specs.Reports.{report as set_verdict_report};
 ghost use Rattle.likeness.specs.Reports.{report as likeness_report};
-ghost use Rattle.erasures.specs.Reports.{report as listed_report};
+ghost use Rattle.erasures.specs.Reports.{report as listed_report, counted};
 ghost use Rattle.equations.specs.Reports.{report as told_report};
 ghost use Rattle.encoder.specs.Reports.{report as encoded_report};
 ghost use Rattle.restorer.specs.Reports.{fault_report as stripe_fault_report};
@@ -218,8 +218,8 @@ pub fn verdict_code(verdict: Result<u32, VerdictError>) -> u64
 
 // The lister's answer.
 pub fn listed_code(listed: Result<Listing, ListError>) -> u64
-    requires { Fits (listed_report listed) }
-    ensures { result ≡ coded (listed_report listed) }
+    requires { Fits (listed_report (counted listed)) }
+    ensures { result ≡ coded (listed_report (counted listed)) }
 {
     match listed {
         Ok(listing) => packed(0, listing.count),

@@ -4,7 +4,7 @@
 ghost use Rattle.std.specs.Prelude.{◌≡◌};
 ghost use Rattle.record_writer.specs.Reports.{report as record_written_report};
 ghost use Rattle.record_reader.specs.Reports.{record_fault_report};
-ghost use Rattle.record.specs.Reports.{report as there_report};
+ghost use Rattle.record.specs.Reports.{report as there_report, there};
 ghost use Rattle.export_bounds.specs.Coded.{coded, Fits};
 
 use crate::{fault_code, packed};
@@ -40,11 +40,11 @@ pub fn record_fault_code(fault: RecordFault) -> u64
 }
 
 // The answer to where a body stands.
-pub fn there_code(there: Result<BodyPlace, BodyError>) -> u64
-    requires { Fits (there_report there) }
-    ensures { result ≡ coded (there_report there) }
+pub fn there_code(answer: Result<BodyPlace, BodyError>) -> u64
+    requires { Fits (there_report (there answer)) }
+    ensures { result ≡ coded (there_report (there answer)) }
 {
-    match there {
+    match answer {
         Ok(_) => 0,
         Err(BodyError::Record(fault)) => record_fault_code(fault),
         Err(BodyError::NoDisk) => 9,

@@ -16,7 +16,7 @@ ghost use Rattle.partial_rebuilder.specs.declared.PartialError.TheVariants.{Card
 ghost use Rattle.partial_rebuilder.specs.Reports.{report};
 
 use card::{CardFault, Code, Edition};
-use restorer::StripeFault;
+pub use restorer::StripeFault;
 
 // Why nothing was rebuilt: the card's fault, that of a strip length, a lost set or a stripe, or survivors of no
 // content.

@@ -13,7 +13,7 @@ ghost use Rattle.rebuilder.specs.declared.RebuildError.TheVariants.{Card, Stripe
 ghost use Rattle.rebuilder.specs.Reports.{report};
 
 use card::{CardFault, Code, Edition};
-use restorer::StripeFault;
+pub use restorer::StripeFault;
 
 // Why nothing was rebuilt: the card's fault, that of a strip length, a lost set or a stripe, a fatal set, or survivors
 // of no content.

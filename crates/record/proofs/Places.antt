@@ -1,12 +1,14 @@
 -- What the body call answers, and which part of the file it lends, by what the reader's check found.
 -- Assumes nothing.
-use mathlib.Core.Path.{◌≡◌, refl, sym, ap, ap₂, ◌∙◌}
+use mathlib.Core.Path.{◌≡◌, refl, sym, ap, ap₂, ◌∙◌, subst}
 use mathlib.Core.Bool.{true, false}
 use mathlib.Core.List.{List, [], ◌∷◌}
 use Prim.Native.Nat.{ℕ, suc, ◌+◌, ◌-◌, ◌≤◌, ◌<◌}
 use native.Mathlib.Omega.{arith}
 use lib.Dec.{eqb}
 use lib.ListN.{length, take, drop}
+use Rattle.std.specs.Prelude.{Result, Ok, Err, IfOk}
+use Rattle.std.specs.Result.{result_unwrap_or}
 use Rattle.gf2.specs.Sets.{has}
 use Rattle.gf2.proofs.Tests.{true-T, false-T}
 use Rattle.flat.specs.Cards.{disks, card_length}
@@ -19,9 +21,10 @@ use Rattle.record_format.proofs.Bodies.{body_beyond, body-lost, body-accepted}
 use Rattle.record_reader.specs.declared.RecordFault.{RecordFault}
 use Rattle.record_reader.specs.Reports.{record_fault_report}
 use Rattle.record_reader.proofs.Callers.{GoodRecord, good, bad_record, bad_refuses}
+use Rattle.record.specs.declared.bodies.BodyPlace.{BodyPlace}
 use Rattle.record.specs.declared.bodies.BodyError.{BodyError}
 use Rattle.record.specs.declared.bodies.BodyError.TheVariants as error
-use Rattle.record.specs.Reports.{error_report}
+use Rattle.record.specs.Reports.{error_report, report, there as there_or_not}
 
 -- ---- a good record
 
@@ -73,9 +76,31 @@ refuses error.NoDisk = refl
 refuses error.Lost = refl
 
 -- no part is lent where the call beside refuses
-pub none_lent : (file : List ℕ) (d : ℕ) (e : BodyError) → error_report e ≡ body_report file d → [] ≡ body_part file d
+none_lent : (file : List ℕ) (d : ℕ) (e : BodyError) → error_report e ≡ body_report file d → [] ≡ body_part file d
 unfolding body_part
 none_lent file d e q = unless_other (body_report file d) (body_in file (suc d)) [] (ap (λ (r : Report). eqb r.number 0) (sym q) ∙ refuses e)
+
+-- the place that `body` takes: the strip's, or the file's front where the strip is not there
+module _ (file : List ℕ) (d : ℕ) (answer : Result BodyPlace BodyError) (place : BodyPlace) (is : place ≡ result_unwrap_or answer (record { at = 0; len = 0 })) where
+  within : (a : Result BodyPlace BodyError) → IfOk a (λ p. p.at + p.len ≤ length file) → let p = result_unwrap_or a (record { at = 0; len = 0 }) in p.at + p.len ≤ length file
+  within (Ok p) h = h
+  within (Err _) _ = omega arith
+
+  pub taken_within : IfOk answer (λ p. p.at + p.len ≤ length file) → place.at + place.len ≤ length file
+  taken_within h = subst (λ (p : BodyPlace). p.at + p.len ≤ length file) (sym is) (within answer h)
+
+  lent : (a : Result BodyPlace BodyError) → report (there_or_not a) ≡ body_report file d
+      → IfOk a (λ p. (p.at ≡ offset_in file (suc d)) × (p.len ≡ body_length_in file (suc d)))
+      → let p = result_unwrap_or a (record { at = 0; len = 0 }) in take (p.at + p.len - p.at) (drop p.at file) ≡ body_part file d
+  lent (Ok p) value h = body_lent file d p.at p.len value h
+  lent (Err e) value _ = none_lent file d e value
+
+  pub taken_lent : report (there_or_not answer) ≡ body_report file d
+      → IfOk answer (λ p. (p.at ≡ offset_in file (suc d)) × (p.len ≡ body_length_in file (suc d)))
+      → (end : ℕ) → end ≡ place.at + place.len → take (end - place.at) (drop place.at file) ≡ body_part file d
+  taken_lent value h end upto =
+      ap (λ (e : ℕ). take (e - place.at) (drop place.at file)) upto
+      ∙ subst (λ (p : BodyPlace). take (p.at + p.len - p.at) (drop p.at file) ≡ body_part file d) (sym is) (lent answer value h)
 
 -- ---- what the proof of `body_place` cites
 pub ruleset places = (bad_place, there, there-within)

@@ -3,7 +3,7 @@
 ghost use Rattle.std.specs.Prelude.{◌≡◌, suc, ◌+◌, ◌≤◌, length, IfOk};
 ghost use Rattle.record_format.specs.Records.{offset_in, body_length_in};
 ghost use Rattle.record_format.specs.Faults.{body_report, body_part};
-ghost use Rattle.record.specs.Reports.{report};
+ghost use Rattle.record.specs.Reports.{report, there};
 ghost use Rattle.record.specs.declared.bodies.BodyError.TheVariants.{Record as RecordsFault};
 
 use record_contents::Layout;
@@ -35,7 +35,7 @@ pub struct BodyPlace {
 // Where the strip of the disk stands.
 #[tactic(auto, using(crate::proofs::Places::places))]
 pub fn body_place(file: &[u8], disk: usize) -> Result<BodyPlace, BodyError>
-    ensures value { report result ≡ body_report file.now disk }
+    ensures value { report (there result) ≡ body_report file.now disk }
     ensures place { IfOk result (λ place. (place.at ≡ offset_in file.now (suc disk)) × (place.len ≡ body_length_in file.now (suc disk))) }
     ensures bound { IfOk result (λ place. place.at + place.len ≤ length file.now) }
 {
@@ -68,11 +68,7 @@ pub fn body_check(file: &[u8], disk: usize) -> Result<(), BodyError>
 pub fn body(file: &[u8], disk: usize) -> &[u8]
     ensures { result.now ≡ body_part file.now disk }
 {
-    match body_place(file, disk) {
-        Ok(BodyPlace { at, len }) => {
-            let end = at + len;
-            &file[at..end]
-        }
-        Err(_) => &[],
-    }
+    let BodyPlace { at, len } = body_place(file, disk).unwrap_or(BodyPlace { at: 0, len: 0 });
+    let end = at + len;
+    &file[at..end]
 }

@@ -4,7 +4,7 @@ use borrow.Author.Rules.{rules}
 use borrow.Author.Tests.{tests}
 use Rattle.std.proofs.lemmas.Iterator.{IsFirst-from_position, YieldsList-from_slice}
 use Rattle.card.proofs.Searching.{Bad, Passes, first_found}
-use Rattle.card.proofs.columns.first_bad.Goals as goal
+use Rattle.card.proofs.column_bytes.first_bad.Goals as goal
 
 pub returns-clause-value : goal.returns-clause-value
 returns-clause-value c =

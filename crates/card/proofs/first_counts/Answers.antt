@@ -1,10 +1,10 @@
--- `card::counts` meets its contract: at each way out the report is that of the card's tests.
+-- `card::first_counts` meets its contract: at each way out the report is that of the card's tests.
 -- Assumes nothing.
 use mathlib.Core.Path.{sym, ◌∙◌}
 use native.Mathlib.Omega.{arith}
 use Rattle.card.proofs.Places.{start_small, parity-read}
 use Rattle.card.proofs.Tested as tested
-use Rattle.card.proofs.counts.Goals as goal
+use Rattle.card.proofs.first_counts.Goals as goal
 
 pub overflow_add-at : goal.overflow_add-at
 overflow_add-at c = omega (arith, c.start-at.ensures, start_small c.args.edition)

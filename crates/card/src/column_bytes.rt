@@ -25,7 +25,7 @@ pub fn first_bad(k: usize, columns: &[u16]) -> Option<usize>
 
 // Column j out of the bytes of the columns.
 #[tactic(auto, using(crate::proofs::Inside::two_bytes_read))]
-pub(crate) fn column_at(columns: &[u8], j: usize) -> u16
+pub fn column(columns: &[u8], j: usize) -> u16
     requires { 2 * j + 1 < length columns.now }
     ensures { result ≡ field (2 * j) 2 columns.now }
 {
@@ -39,5 +39,5 @@ pub(crate) fn first_bad_in(k: usize, m: usize, columns: &[u8]) -> Option<usize>
     ensures value { unwrap_or result m ≡ first_bad k (columns_in m columns.now) }
     ensures bound { IfSome result (λ j. j < m) }
 {
-    (0..m).position(|j| !column_ok(k, column_at(columns, j)))
+    (0..m).position(|j| !column_ok(k, column(columns, j)))
 }

@@ -8,7 +8,7 @@ use borrow.Author.Tests.{tests}
 use Rattle.std.proofs.lemmas.Iterator.{IsFirst-from_position, YieldsList-from_range}
 use Rattle.flat.specs.Lists.{field}
 use Rattle.card.proofs.Searching.{Bad, Passes, first_found_in}
-use Rattle.card.proofs.columns.first_bad_in.Goals as goal
+use Rattle.card.proofs.column_bytes.first_bad_in.Goals as goal
 
 pub returns-clause-value : goal.returns-clause-value
 returns-clause-value c =
