@@ -17,14 +17,14 @@ use card::{CardFault, Code, Edition};
 const LEVEL: u16 = 16;
 
 // The balance of a column: up from level for each column of the one code that is equal to it, and down for each of the
-// other's. It is as wide as a column, so that the compiler compares and counts eight of each at once. The columns are counted
-// by the other's m, the same number, which the compiler still has in a register.
+// other's. It is as wide as a column, so that the compiler compares and counts eight of each at once. The columns are counted by
+// the own m: by the other's, the same number, the compiler knows that it is at most 16, and takes the last m % 8 one by one.
 fn balance(own: &Code<'_>, other: &Code<'_>, column: u16) -> u16
     requires { own.now.m ≡ other.now.m }
     ensures { result + occurrences other.now column ≡ 16 + occurrences own.now column }
 {
     let mut balance = LEVEL;
-    for i in 0..other.m() {
+    for i in 0..own.m() {
         let up = u16::from(own.column(i) == column);
         let down = u16::from(other.column(i) == column);
         balance = balance + up - down;

@@ -9,9 +9,9 @@ use Rattle.std.proofs.lemmas.List.{drop-drop}
 use Rattle.flat.specs.Lists.{put}
 use Rattle.copies.proofs.copy.Goals as goal
 
-pub returns : goal.returns
+pub returns-else-new-lt16 : goal.returns-else-new-lt16
 unfolding put
-returns c =
+returns-else-new-lt16 c =
     let a = c.args in
     let n = length a.new.now in
     let part : a.at + n - a.at ≡ n = omega arith in
