@@ -3,14 +3,13 @@
 use mathlib.Core.Path.{◌≡◌, sym, ap, ap₂, ◌∙◌, subst}
 use mathlib.Core.Bool.{Bool, true, false}
 use mathlib.Core.Logic.{◌⊎◌, inl, inr}
-use mathlib.Core.List.{List, [], ◌∷◌, ◌++◌}
+use mathlib.Core.List.{List}
 use Prim.Native.Nat.{ℕ, suc, ◌+◌, ◌-◌, ◌*◌, ◌%◌, ◌^◌, ◌≤◌, ◌<◌}
 use native.Mathlib.Nat.{add-zero, lt_of_lt_of_le}
 use native.Mathlib.Omega.{arith}
 use borrow.Author.Tests.{lt-ltb, le-ltb, ne_eqb}
-use native.Mathlib.Numerals.{add-one}
 use lib.Dec.{ltb, eqb}
-use lib.ListN.{length}
+use lib.ListN.{length, get_or, take, get_or-eq_default}
 use lib.Pow.{pow-lt, pow_mono}
 use Rattle.std.specs.Prelude.{if◌then◌else◌}
 use Rattle.gf2.specs.Sets.{bit, has, ◌⊕◌}
@@ -19,11 +18,11 @@ use Rattle.gf2.proofs.Made.{add_fits}
 use Rattle.gf2.proofs.Tests.{below_or}
 use Rattle.gf2.proofs.Xor.{⊕_lt, ⊕-zero, zero-⊕}
 use Rattle.gf2.proofs.Sums.{if_has}
-use Rattle.flat.specs.Lists.{set_of, tabulate}
+use Rattle.flat.specs.Lists.{set_of, tabulate, padded}
 use Rattle.flat.specs.Cards.{Code, disks, column}
 use Rattle.flat.specs.Checks.{row, check}
 use Rattle.flat.specs.Spans.{rows, checks}
-use Rattle.flat.proofs.Lists.{length-tabulate, tabulate-more}
+use Rattle.flat.proofs.Lists.{length-tabulate, take-padded, get_d_padded}
 use Rattle.card.specs.Codes.{Legal}
 use Rattle.flat.proofs.Quantifiers.{set_lt, bit-set, add_power}
 
@@ -104,7 +103,7 @@ pub check_added : (C : Code) (j k c : ℕ) → Legal C → j < C.m → k ≡ C.k
 check_added C j k c h l n e =
     ap₂ ◌+◌ e (one_shifted (k + j) (omega arith) ∙ ap (λ (x : ℕ). 2 ^ (x + j)) n) ∙ check-sum C j l (h.5 j l)
 
--- a code's rows and checks are as many as its disks, and one more of a table stands at its end
+-- a code's rows and checks are as many as its disks
 module _ (C : Code) where
   pub count_rows : length (rows C) ≡ C.k
   unfolding rows
@@ -122,12 +121,10 @@ module _ (C : Code) where
   unfolding checks
   all_checks n e = ap (λ (i : ℕ). tabulate i (check C)) e
 
-pub none_yet : (f : ℕ → ℕ) (ws : List ℕ) → ws ≡ [] → ws ≡ tabulate 0 f
-unfolding tabulate
-none_yet f ws e = e
+-- the first j of a table stand in sixteen places, and zeros after them
+module _ (f : ℕ → ℕ) (j : ℕ) (out : List ℕ) (e : out ≡ padded 16 (tabulate j f)) where
+  pub rest_of_table : (i : ℕ) → j ≤ i → get_or out i 0 ≡ 0
+  rest_of_table i l = rw e (get_d_padded 16 i (tabulate j f) ∙ get_or-eq_default (tabulate j f) 0 (rw (length-tabulate j f) l))
 
-pub one_more : (f : ℕ → ℕ) (j w : ℕ) (ws : List ℕ) → ws ≡ tabulate j f → w ≡ f j → ws ++ w ∷ [] ≡ tabulate (j + 1) f
-one_more f j w ws e g = ap₂ (λ (l : List ℕ) (x : ℕ). l ++ x ∷ []) e g ∙ sym (ap (λ (i : ℕ). tabulate i f) (add-one j) ∙ tabulate-more j f)
-
-pub length-table : (f : ℕ → ℕ) (j : ℕ) (ws : List ℕ) → ws ≡ tabulate j f → length ws ≡ j
-length-table f j ws e = ap length e ∙ length-tabulate j f
+  pub first_of_table : (n : ℕ) → n ≡ j → take n out ≡ tabulate j f
+  first_of_table n q = rw (e, q) (take-padded 16 j (tabulate j f) (length-tabulate j f))

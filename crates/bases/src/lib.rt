@@ -33,11 +33,12 @@ pub fn rows(code: &Code<'_>) -> Basis
     ensures count { length result ≡ code.now.k }
     ensures legal { Legal code.now }
 {
-    let mut rows = Basis::new();
-    for i in 0..code.k() {
-        rows.push(row(code, i));
+    let k = code.k();
+    let mut rows = [0u32; 16];
+    for i in 0..k {
+        rows[i] = row(code, i);
     }
-    rows
+    Basis::padded(rows, k)
 }
 
 // Check j: parity disk k + j with its data disks.
@@ -54,9 +55,10 @@ pub fn checks(code: &Code<'_>) -> Basis
     ensures count { length result ≡ code.now.m }
     ensures legal { Legal code.now }
 {
-    let mut checks = Basis::new();
-    for j in 0..code.m() {
-        checks.push(check(code, j));
+    let m = code.m();
+    let mut checks = [0u32; 16];
+    for j in 0..m {
+        checks[j] = check(code, j);
     }
-    checks
+    Basis::padded(checks, m)
 }

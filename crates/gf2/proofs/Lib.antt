@@ -9,5 +9,6 @@ pub mod OneRow
 pub mod Sizes
 pub mod Unions
 pub mod Made
+pub mod Padded
 pub mod Loops
 pub mod Theorems

@@ -1,4 +1,5 @@
 pub mod Sets
 pub mod Span
+pub mod Padded
 pub mod Within
 pub mod Theorems

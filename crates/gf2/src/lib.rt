@@ -4,7 +4,7 @@
 // The contracts cite specs/; what `within` means is said in specs/Theorems.antt.
 #![tactic(auto)]
 
-ghost use Rattle.std.specs.Prelude.{◌≡◌, not, map, ◌≢◌, ◌%◌, ◌^◌, ◌≤◌, ◌<◌, ltb, List, [], ◌∷◌, ◌++◌, ℕ, length, take, if◌then◌else◌};
+ghost use Rattle.std.specs.Prelude.{◌≡◌, not, map, ◌≢◌, ◌%◌, ◌^◌, ◌≤◌, ◌<◌, ltb, [], ◌∷◌, ◌++◌, ℕ, length, get_or, take, if◌then◌else◌};
 ghost use Rattle.gf2.specs.Sets.{has, size, first, set_of, ◌⊆◌, ◌∖◌, union};
 ghost use Rattle.gf2.specs.Span.{select};
 ghost use Rattle.gf2.specs.Within.{lowest, clear, within};
@@ -126,20 +126,31 @@ pub fn select(rows: [u32; 16], x: u32) -> u32
     word
 }
 
-// A list of at most sixteen words, as the rows and the checks of a code are: the first count of the rows. What stands
-// after them means nothing, and no clause sees it.
-#[derive(Drop)]
+// A list of at most sixteen words, as the rows and the checks of a code are: the first count of the rows. The rows after
+// them are 0, so that the words say what all the fields are.
+#[derive(Clone, Copy)]
 pub struct Basis {
     rows: [u32; 16],
     count: usize,
 }
 
 impl Model for Basis {
+    ghost use Rattle.std.specs.Prelude.{◌≡◌, ◌≤◌, ◌-◌, ◌++◌, List, ℕ, length, get_or, take, replicate};
+    ghost use Rattle.std.proofs.Common.{arith, length-take-le};
+    ghost use Rattle.gf2.specs.Padded.{padded-back};
+
     ghost Value = { List ℕ };
 
     ghost view = { λ b. take b.count b.rows };
 
-    ghost invariant = { λ b. b.count ≤ 16 };
+    ghost invariant = { λ b. (length b.rows ≡ 16) × (b.count ≤ 16) × ((i : ℕ) → b.count ≤ i → get_or b.rows i 0 ≡ 0) };
+
+    ghost inverse = { λ words. record { rows = words ++ replicate (16 - length words) 0; count = length words } };
+
+    ghost inverse_ok = { λ b h i. record {
+      rows = padded-back 16 b.count b.rows h.0 h.1 h.2 i;
+      count = length-take-le b.count b.rows (omega (arith, h.0, h.1)) i;
+    } };
 }
 
 impl Basis {
@@ -153,9 +164,22 @@ impl Basis {
         }
     }
 
-    // The first count of the rows.
+    // The first count of the rows. Each of the sixteen is kept or cleared by its number.
     pub fn of(rows: [u32; 16], count: usize) -> Self
         requires { count ≤ 16 }
+        ensures { result ≡ take count rows }
+    {
+        let mut kept = [0; 16];
+        for i in 0..16 {
+            kept[i] = if i < count { rows[i] } else { 0 };
+        }
+        Basis { rows: kept, count }
+    }
+
+    // The first count of the rows, where the rows after them are 0 already: they are stored as they are.
+    pub fn padded(rows: [u32; 16], count: usize) -> Self
+        requires room { count ≤ 16 }
+        requires rest { (i : ℕ) → count ≤ i → get_or rows i 0 ≡ 0 }
         ensures { result ≡ take count rows }
     {
         Basis { rows, count }
@@ -178,12 +202,14 @@ impl Basis {
         &self.rows[..self.count]
     }
 
-    // All sixteen rows, for loops that keep them in registers: the words, and what stands after them.
+    // All sixteen rows, for loops that keep them in registers: the words, and zeros after them.
     pub fn rows(&self) -> [u32; 16]
         ensures words { take (length self.now) result ≡ self.now }
         ensures bound { length self.now ≤ 16 }
+        ensures rest { (i : ℕ) → length self.now ≤ i → get_or result i 0 ≡ 0 }
     {
-        self.rows
+        let rows = self.rows;
+        rows
     }
 
     // What is left of the basis inside the set: a basis of the words of its span that lie inside. The count of those that

@@ -1,10 +1,12 @@
 -- Laws for the proofs of the code: a number rotated by shifts in 64 bits, and the disk in a slot without a division.
 -- Assumes nothing.
 use mathlib.Core.Path.{◌≡◌, sym, ap, ap₂, ◌∙◌, subst}
+use mathlib.Core.List.{List, map}
 use Prim.Native.Nat.{ℕ, ◌+◌, ◌-◌, ◌*◌, ◌/◌, ◌%◌, ◌^◌, ◌≤◌, ◌<◌}
-use native.Mathlib.Nat.{mod-lt, mod-eq_of_lt, add-mod_right, div-lt_iff_lt-mul, lt_of_lt_of_le}
+use native.Mathlib.Nat.{zero-mul, zero-mod, zero-div, mod-lt, mod-eq_of_lt, add-mod_right, div-lt_iff_lt-mul, lt_of_lt_of_le}
 use native.Mathlib.Omega.{arith}
 use lib.Bits.{bit_or, or_lt}
+use lib.ListN.{get_or, get_or-map}
 use lib.Pow.{pow_pos, pow_mono, pow-add, shl_exact, shl_lt}
 use Rattle.gf2.specs.Sets.{◌∪◌}
 use Rattle.gf2.proofs.Bits.{one_shifted_in}
@@ -35,6 +37,16 @@ module _ (S n a : ℕ) (small : S < 2 ^ 32) (few : n ≤ 32) (part : a ≤ n) wh
 
   pub rotated_fits : bit_or (S * 2 ^ (n - a) % 2 ^ 64 % (1 * 2 ^ n % 2 ^ 64)) (S * 2 ^ (n - a) % 2 ^ 64 / 2 ^ n) < 2 ^ 32
   rotated_fits = subst (λ (x : ℕ). x < 2 ^ 32) (sym rotated-is) rotated_lt
+
+-- 0 is rotated to 0, and so are the places of an array where 0 stands
+rotated-none : (n a : ℕ) → rotated n a 0 ≡ 0
+unfolding rotated ◌∪◌
+rotated-none n a = rw (zero-mul (2 ^ (n - a)), zero-mod (2 ^ n), zero-div (2 ^ n))
+
+pub rotated_rest : (n a : ℕ) (rows : List ℕ) (i : ℕ) → get_or rows i 0 ≡ 0 → get_or (map (rotated n a) rows) i 0 ≡ 0
+rotated_rest n a rows i e =
+    let none = rotated-none n a in
+    ap (λ (x : ℕ). get_or (map (rotated n a) rows) i x) (sym none) ∙ get_or-map (rotated n a) rows i 0 ∙ ap (rotated n a) e ∙ none
 
 -- the disk in a slot, for a turn below n
 module _ (n t s : ℕ) (turn : t < n) (slot : s < n) where

@@ -63,7 +63,7 @@ impl Turn {
         rotated(set, self.n, self.n - self.by)
     }
 
-    // The words of a basis as sets of slots. All sixteen rows are rotated, in registers.
+    // The words of a basis as sets of slots. All sixteen rows are rotated, in registers; 0 stays 0.
     pub fn basis(self, words: &Basis) -> Basis
         ensures { result ≡ map (rotated self.n (self.n - self.by)) words.now }
     {
@@ -71,7 +71,7 @@ impl Turn {
         for row in &mut rows {
             *row = rotated(*row, self.n, self.n - self.by);
         }
-        Basis::of(rows, words.words().len())
+        Basis::padded(rows, words.words().len())
     }
 
     // The disk whose strip stands in slot s.

@@ -1,12 +1,13 @@
 // The strips of a set as a list of places, for strips that are read from end to end.
-ghost use Rattle.std.specs.Prelude.{◌≡◌, List, ℕ, ◌*◌, ◌^◌, ◌<◌, ◌≤◌, T, length, get_or, take};
+ghost use Rattle.std.specs.Prelude.{◌≡◌, ℕ, ◌*◌, ◌^◌, ◌<◌, ◌≤◌, T, length, get_or};
 ghost use Rattle.gf2.specs.Sets.{has, over};
 ghost use Rattle.strip_blocks.specs.Totals.{total};
 
 use std::marker::Model;
 
-// Where some strips start, at most 32: the first count places; what stands after them means nothing.
-#[derive(Drop)]
+// Where some strips start, at most 32: the first count places. Those after them are 0, so that the list of places says
+// what all the fields are.
+#[derive(Clone, Copy)]
 pub struct Members {
     at: [usize; 32],
     count: usize,
@@ -14,11 +15,22 @@ pub struct Members {
 
 // Clauses see the list of places.
 impl Model for Members {
+    ghost use Rattle.std.specs.Prelude.{◌≡◌, ◌≤◌, ◌-◌, ◌++◌, List, ℕ, length, get_or, take, replicate};
+    ghost use Rattle.std.proofs.Common.{arith, length-take-le};
+    ghost use Rattle.gf2.specs.Padded.{padded-back};
+
     ghost Value = { List ℕ };
 
     ghost view = { λ m. take m.count m.at };
 
-    ghost invariant = { λ m. m.count ≤ 32 };
+    ghost invariant = { λ m. (length m.at ≡ 32) × (m.count ≤ 32) × ((j : ℕ) → m.count ≤ j → get_or m.at j 0 ≡ 0) };
+
+    ghost inverse = { λ places. record { at = places ++ replicate (32 - length places) 0; count = length places } };
+
+    ghost inverse_ok = { λ m h i. record {
+      at = padded-back 32 m.count m.at h.0 h.1 h.2 i;
+      count = length-take-le m.count m.at (omega (arith, h.0, h.1)) i;
+    } };
 }
 
 impl Members {

@@ -4,6 +4,7 @@ use Rattle.std.proofs.Common.{◌≡◌, ◌≤◌, ◌<◌, ap, arith, rules, s
 use Rattle.std.proofs.lemmas.List.{length-map}
 use Rattle.gf2.specs.Within.{within}
 use Rattle.gf2.proofs.Loops.{whole-start, whole-kept, whole_dropped, whole_end}
+use Rattle.gf2.proofs.Padded.{rest-none, rest_more}
 use Rattle.gf2.proofs.Tests.{true-T, false-T}
 use Rattle.gf2.proofs.Subsets.{none-⊆}
 use Rattle.gf2.proofs.Basis.within.Goals as goal
@@ -14,6 +15,7 @@ loop-i-init c = record {
   sixteen = search rules;
   room = search rules;
   fewer = search rules;
+  spare = λ i h. rest-none 16 i;
   rest = whole-start _ _ _ _ ∙ ap (within c.args.set) c.self.view_is;
 }
 
@@ -33,6 +35,7 @@ loop-i-preserved c =
         sixteen = search rules;
         room = rw (w.left-is, length-set) at.invariant.room;
         fewer = search rules;
+        spare = rw (w.left-is, w.count-is) (rest_more at.count _ at.left at.invariant.spare);
         rest = rw (w.rows-is, w.left-is, w.count-is)
             (whole-kept _ _ at.i at.rows at.left at.count h l k (true-T (sym e ∙ w.if-inside.true)) ∙ at.invariant.rest);
       }
@@ -40,6 +43,7 @@ loop-i-preserved c =
         sixteen = rw (w.rows-is, w.cleared_all-rows.ensures, length-map) at.invariant.sixteen;
         room = search rules;
         fewer = search rules;
+        spare = rw (w.left-is, w.count-is) at.invariant.spare;
         rest = rw (w.rows-is, w.left-is, w.count-is, w.cleared_all-rows.ensures, w.lowest.ensures.0, w.outside.ensures)
             (whole_dropped _ _ at.i at.rows at.left at.count h l (false-T (sym e ∙ w.if-inside.false)) ∙ at.invariant.rest);
       }
