@@ -13,7 +13,7 @@ use Rattle.flat.specs.Cards.{Code, code_of, card_length, edition_one}
 use Rattle.record_format.specs.Records.{strips_at, body_at, body_in}
 use Rattle.flat.specs.Faults.{Report, accepted, unless_refused}
 use Rattle.record_format.specs.Faults.{with_record, record_report, record_columns}
-use Rattle.flat.proofs.Reports.{unless_accepted, unless_other, as_refused}
+use Rattle.flat.proofs.Reports.{unless_number, unless_other, as_refused}
 use Rattle.flat.proofs.Lengths.{length_in_lem}
 use Rattle.record_format.proofs.Received.{Received, received, with_refused_record}
 use Rattle.card.proofs.Laws.{fault_refuses}
@@ -59,10 +59,11 @@ good file k m L S e =
     let r = received file k m L S (sym e) in
     record { k_in = r.k_in; m_in = r.m_in; short = (length_in_lem L r.length_ok_lem).1; front = omega (arith, r.size); found = sym e; known = r }
 
--- its columns are those of its card's code
-pub columns_good : (file : List ℕ) (ws : List ℕ) (C : Code) → accepted ws ≡ record_report file → C ≡ code_of (edition_one (body_in file 0))
-    → padded 16 C.columns ≡ record_columns file
+-- its columns, as the code reads them, are those of its card's code
+pub columns_good : (file columns : List ℕ) (C : Code) (r : Report) → C ≡ code_of (edition_one (body_in file 0)) → columns ≡ padded 16 C.columns
+    → r ≡ record_report file → r.number ≡ 0 → columns ≡ record_columns file
 unfolding record_columns
-columns_good file ws C e is =
-    ap (λ (D : Code). padded 16 D.columns) is
-    ∙ ap (padded 16) (sym (unless_accepted (record_report file) ws (code_of (edition_one (body_in file 0))).columns [] (sym e)))
+columns_good file columns C r is e found zero =
+    let D = code_of (edition_one (body_in file 0)) in
+    e ∙ ap (λ (X : Code). padded 16 X.columns) is
+    ∙ ap (padded 16) (sym (unless_number (record_report file) D.columns [] (ap (λ (x : Report). x.number) (sym found) ∙ zero)))

@@ -97,6 +97,7 @@ pub fn check(file: &[u8]) -> Result<RecordInfo, RecordFault>
 }
 
 // The record reader: k, m, the length of the strips, the lost set and the columns of a record, or its fault.
+#[tactic(auto, using(crate::proofs::Callers::columns_good))]
 pub fn read(file: &[u8]) -> Result<RecordRead, RecordFault>
     ensures counts { IfOk result (λ read. record_report file.now ≡ accepted (read.k ∷ read.m ∷ read.l ∷ read.lost ∷ [])) }
     ensures columns { IfOk result (λ read. read.columns ≡ record_columns file.now) }

@@ -6,7 +6,7 @@ use mathlib.Core.Logic.{◌≢◌}
 use mathlib.Core.List.{List, [], ◌∷◌, ◌++◌}
 use Prim.Native.Nat.{ℕ, ◌+◌, ◌*◌, ◌^◌, ◌≤◌, ◌<◌}
 use native.Mathlib.Omega.{arith}
-use borrow.Author.Tests.{lt-ltb, le-ltb}
+use borrow.Author.Tests.{lt-ltb, le-ltb, eqb-true}
 use lib.Dec.{eqb, ltb}
 use lib.ListN.{length, drop}
 use Rattle.std.specs.Prelude.{Ok, Err}
@@ -16,7 +16,7 @@ use Rattle.flat.specs.Cards.{Code, code_of, disks, set_ok, card_length, edition_
 use Rattle.flat.specs.Strips.{length_ok}
 use Rattle.flat.specs.Faults.{Report, accepted, refused, card_report}
 use Rattle.flat.proofs.Lengths.{length_in_lem, stripe-small}
-use Rattle.flat.proofs.Reports.{unless_accepted, unless_other}
+use Rattle.flat.proofs.Reports.{unless_zero, unless_other}
 use Rattle.flat.proofs.Tested.{Passed, passed_length, tests_length, tests_set, tests_size, tests_past}
 use Rattle.record_format.specs.Records.{strips_at, body_at, record_length, record_bytes}
 use Rattle.record_format.specs.Faults.{record_write_tests, record_write_report, record_write_output}
@@ -24,11 +24,7 @@ use Rattle.record_format.proofs.Parts.{length_record}
 use Rattle.record_format.proofs.Written.{Recordable, record_passed}
 use Rattle.card.specs.declared.CardFault.{CardFault}
 use Rattle.card.specs.Reports.{fault_report, report as check_report}
-use Rattle.card.proofs.Laws.{fault_refuses}
 use Rattle.card.proofs.Callers.{GoodCard, good, good_with, bad_card, one-length}
-use Rattle.record_writer.specs.declared.RecordWriteError.{RecordWriteError}
-use Rattle.record_writer.specs.declared.RecordWriteError.TheVariants as error
-use Rattle.record_writer.specs.Reports.{error_report}
 
 -- ---- the tests at each way out, for a code of N disks
 
@@ -69,14 +65,6 @@ module _ (C : Code) (L S n p : ℕ) where
 
 -- ---- what is refused
 
--- an error's number is not 0
-refuses : (e : RecordWriteError) → eqb (error_report e).number 0 ≡ false
-refuses (error.Card f) = fault_refuses f
-refuses error.StripLength = refl
-refuses error.OutsideSet = refl
-refuses error.StripeLength = refl
-refuses error.Output = refl
-
 module _ (card : List ℕ) (L S : ℕ) (stripe out : List ℕ) where
   abbrev pub asked : Report
   asked = record_write_report card L S (length stripe) (length out)
@@ -86,9 +74,9 @@ module _ (card : List ℕ) (L S : ℕ) (stripe out : List ℕ) where
   bad_report f e = bad_card First card (λ C. record_write_tests C L S (length stripe) (length out)) f e
 
   -- the output stays as it was
-  pub output-kept : (e : RecordWriteError) → error_report e ≡ asked → out ≡ record_write_output card L S stripe out
+  pub output-kept : (r : Report) → r ≡ asked → eqb r.number 0 ≡ false → out ≡ record_write_output card L S stripe out
   unfolding record_write_output
-  output-kept e q = unless_other asked _ out (ap (λ (r : Report). eqb r.number 0) (sym q) ∙ refuses e)
+  output-kept r e other = unless_other asked _ out (ap (λ (x : Report). eqb x.number 0) (sym e) ∙ other)
 
   -- ---- for a good card
 
@@ -101,10 +89,10 @@ module _ (card : List ℕ) (L S : ℕ) (stripe out : List ℕ) where
     g : GoodCard (edition_one card) C
     g = good First card C e is
 
-    -- the tests' answer is a length
-    module _ (len : ℕ) (found : accepted (len ∷ []) ≡ record_write_tests C L S (length stripe) (length out)) where
+    -- the tests accept
+    module _ (r : Report) (found : r ≡ record_write_tests C L S (length stripe) (length out)) (zero : eqb r.number 0 ≡ true) where
       w : Recordable C L S (length stripe) (length out)
-      w = record_passed C L S (length stripe) (length out) (ap (λ (r : Report). r.number) (sym found))
+      w = record_passed C L S (length stripe) (length out) (ap (λ (x : Report). x.number) (sym found) ∙ eqb-true r.number 0 zero)
 
       module _ (N : ℕ) (many : N ≡ disks C) where
         -- the place of the end that the code asks room for is T
@@ -129,7 +117,7 @@ module _ (card : List ℕ) (L S : ℕ) (stripe out : List ℕ) where
             omega (arith, length_record card N L S stripe (omega (arith, size)), room-asked) in
             ap₂ (λ (x y : ℕ). record_bytes card x L S stripe ++ drop y out) many end
             ∙ ap (λ (D : Code). record_bytes card (disks D) L S stripe ++ drop (record_length D L S) out) is
-            ∙ sym (unless_accepted asked _ _ out (good_report ∙ sym found))
+            ∙ unless_zero asked _ out (ap (λ (x : Report). eqb x.number 0) (good_report ∙ sym found) ∙ zero)
 
 -- ---- what the proofs of the code cite
 

@@ -5,7 +5,7 @@
 // record_format/specs/Records.antt, and what is answered for which input in record_format/specs/Faults.antt.
 #![tactic(auto)]
 
-ghost use Rattle.std.specs.Prelude.{◌≡◌, length};
+ghost use Rattle.std.specs.Prelude.{◌≡◌, eqb, length};
 ghost use Rattle.record_format.specs.Faults.{record_write_tests, record_write_report, record_write_output};
 ghost use Rattle.record_writer.specs.Reports.{report};
 ghost use Rattle.record_writer.specs.declared.RecordWriteError.TheVariants.{Card as CardError};
@@ -64,6 +64,17 @@ fn record_length(
     Ok(len)
 }
 
+// Whether the record is to be written. An output that is too short keeps its content, as after every refusal.
+fn accepts(answer: &Result<usize, RecordWriteError>) -> bool
+    ensures { result ≡ eqb (report answer.now).number 0 }
+{
+    match answer {
+        Ok(_) => true,
+        Err(RecordWriteError::Output) => false,
+        Err(_) => false,
+    }
+}
+
 // The writer: the record of the stripe at the output's front.
 #[tactic(auto, using(crate::proofs::WriterAnswers::reports))]
 pub fn write(
@@ -77,7 +88,9 @@ pub fn write(
     ensures out_after { out.new ≡ record_write_output card.now l lost stripe.now out.old }
 {
     let code = card::check(Edition::First, card)?;
-    let len = record_length(&code, l, lost, stripe.len(), out.len())?;
-    parts::put_record(card, code.n(), l, lost, stripe, out);
-    Ok(len)
+    let answer = record_length(&code, l, lost, stripe.len(), out.len());
+    if accepts(&answer) {
+        parts::put_record(card, code.n(), l, lost, stripe, out);
+    }
+    answer
 }

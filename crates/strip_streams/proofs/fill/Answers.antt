@@ -9,10 +9,10 @@ pub returns-then-at-eq1 : goal.returns-then-at-eq1
 returns-then-at-eq1 c =
     let a = c.args in
     let u = c.filled_up in
-    c.fill_from.ensures ∙ up-put a.s.now a.at.now u.result (length a.at.now) 3 u.ensures.sums a.p a.l
+    c.fill_from.ensures ∙ up-put a.s.now a.at.now u.result (length a.at.now) _ u.ensures.sums a.p a.l
 
 pub returns-else-at-eq1 : goal.returns-else-at-eq1
 returns-else-at-eq1 c =
     let a = c.args in
     let u = c.filled_up-else-at-eq1 in
-    c.fill_from-else-at-eq1.ensures ∙ up-put a.s.now a.at.now u.result (length a.at.now) 4 u.ensures.sums a.p a.l
+    c.fill_from-else-at-eq1.ensures ∙ up-put a.s.now a.at.now u.result (length a.at.now) _ u.ensures.sums a.p a.l
