@@ -57,7 +57,7 @@ fn check(
     if let Some(bad) = card::first_bad(k, columns) {
         return Err(CardFault::Column(bad));
     }
-    if wears.contains(&0) {
+    if card::has_zero(wears) {
         return Err(CardFault::ZeroWear);
     }
     Ok(())

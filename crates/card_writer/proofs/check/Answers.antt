@@ -2,7 +2,7 @@
 -- Assumes nothing.
 use mathlib.Core.Path.{sym, ◌∙◌}
 use native.Mathlib.Omega.{arith}
-use Rattle.card.proofs.Checked.{none_found, zero_among}
+use Rattle.card.proofs.Checked.{none_found}
 use Rattle.card_writer.proofs.Tested as tested
 use Rattle.card_writer.proofs.check.Goals as goal
 
@@ -43,14 +43,14 @@ returns-in-Some-clause-fault c =
     tested.bad_column _ _ _ _ _ (sym c.count_ok.ensures ∙ c.if-not-count_ok.false) (sym c.count_ok-2.ensures ∙ c.if-not-count_ok-2.false)
     c.if-columns-m.false _ c.wear_count.ensures c.if-wears-wear_count.false _ c.in-Some.ensures.value c.in-Some.ensures.bound
 
-pub returns-then-contains-clause-fault : goal.returns-then-contains-clause-fault
-returns-then-contains-clause-fault c =
+pub returns-then-has_zero-clause-fault : goal.returns-then-has_zero-clause-fault
+returns-then-has_zero-clause-fault c =
     tested.zero_wear _ _ _ _ _ (sym c.count_ok.ensures ∙ c.if-not-count_ok.false) (sym c.count_ok-2.ensures ∙ c.if-not-count_ok-2.false)
     c.if-columns-m.false _ c.wear_count.ensures c.if-wears-wear_count.false
-    (none_found _ _ _ c.in_default.not-Some c.first_bad.ensures.value) (sym c.if-contains.true ∙ c.contains.ensures.value ∙ zero_among _)
+    (none_found _ _ _ c.in_default.not-Some c.first_bad.ensures.value) (sym c.if-has_zero.true ∙ c.has_zero.ensures)
 
 pub returns-clause-sound : goal.returns-clause-sound
 returns-clause-sound c =
     tested.sound _ _ _ _ _ (sym c.count_ok.ensures ∙ c.if-not-count_ok.false) (sym c.count_ok-2.ensures ∙ c.if-not-count_ok-2.false)
     c.if-columns-m.false _ c.wear_count.ensures c.if-wears-wear_count.false
-    (none_found _ _ _ c.in_default.not-Some c.first_bad.ensures.value) (sym c.if-contains.false ∙ c.contains.ensures.value ∙ zero_among _)
+    (none_found _ _ _ c.in_default.not-Some c.first_bad.ensures.value) (sym c.if-has_zero.false ∙ c.has_zero.ensures)
