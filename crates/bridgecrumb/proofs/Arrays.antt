@@ -1,9 +1,10 @@
 -- The arrays of an exported call: written where the call is accepted, and left as they were where it is refused.
 -- Assumes nothing.
-use mathlib.Core.Path.{◌≡◌, refl, sym, ap, ◌∙◌}
+use mathlib.Core.Path.{◌≡◌, refl, sym, ap, ap₂, ◌∙◌, subst}
 use mathlib.Core.Bool.{false}
-use mathlib.Core.List.{List}
-use Prim.Native.Nat.{ℕ}
+use mathlib.Core.List.{List, [], ◌∷◌}
+use Prim.Native.Nat.{ℕ, ◌%◌}
+use borrow.Author.Tests.{ne_eqb, eqb-false}
 use lib.Dec.{eqb}
 use Rattle.flat.specs.Faults.{Report, accepted, unless_refused}
 use Rattle.flat.proofs.Reports.{unless_accepted, unless_other}
@@ -18,12 +19,15 @@ use Rattle.record_reader.specs.Reports.{record_fault_report}
 use Rattle.record_reader.proofs.Callers.{bad_refuses}
 use Rattle.record.specs.declared.bodies.BodyError.{BodyError}
 use Rattle.record.specs.declared.bodies.BodyError.TheVariants as body
-use Rattle.record.specs.Reports.{error_report as body_report}
+use Rattle.record.specs.declared.bodies.BodyPlace.{BodyPlace}
+use Rattle.record.specs.Reports.{error_report as body_report, report as body_answer, there}
 use Rattle.tray.specs.declared.TrayError.{TrayError}
 use Rattle.tray.specs.declared.TrayError.TheVariants as tray
 use Rattle.tray.specs.Reports.{error_report as tray_report}
-use Rattle.export_bounds.specs.Coded.{coded, coded_fault}
-use Rattle.std.specs.Prelude.{Err}
+use Rattle.export_bounds.specs.Coded.{coded, coded_fault, Fits}
+use Rattle.export_bounds.proofs.Theorems.{coded_decodes}
+use Rattle.std.specs.Prelude.{Result, Ok, Err, IfOk}
+use Rattle.std.specs.Result.{result_unwrap_or}
 
 -- ---- the number of no error is 0
 
@@ -55,9 +59,6 @@ module _ {A : Type 0} (r : Report) where
   pub list_kept : (new old : A) (e : ListError) → listed_report (Err e) ≡ r → old ≡ unless_refused r new old
   list_kept new old e = kept new old (listed_report (Err e)) (list_refuses e)
 
-  pub body_kept : (new old : A) (e : BodyError) → body_report e ≡ r → old ≡ unless_refused r new old
-  body_kept new old e = kept new old (body_report e) (body_refuses e)
-
   pub tray_kept : (new old : A) (e : TrayError) → tray_report e ≡ r → old ≡ unless_refused r new old
   tray_kept new old e = kept new old (tray_report e) (tray_refuses e)
 
@@ -70,6 +71,29 @@ module _ {A : Type 0} (r : Report) where
 
   pub record_kept : (new old : A) (f : RecordFault) → r ≡ record_fault_report f → old ≡ unless_refused r new old
   record_kept new old f e = kept new old (record_fault_report f) (bad_refuses f) (sym e)
+
+-- ---- the body call: its array by the low 8 bits of the one number
+
+module _ (r : Report) (fits : Fits r) (code : ℕ) (e : code ≡ coded r) where
+  number : code % 256 ≡ r.number
+  number = ap (λ (n : ℕ). n % 256) e ∙ (coded_decodes r fits.number_fits).0
+
+  -- low bits that are not 0 refuse
+  pub refused_kept : {A : Type 0} (new old : A) → (code % 256 ≡ 0 → ⊥) → old ≡ unless_refused r new old
+  refused_kept new old h = unless_other r new old (ne_eqb r.number 0 (λ z. h (number ∙ z)))
+
+  -- where they are 0 there is a place, and it is the one that is named
+  module _ (x y : ℕ) (old : List ℕ) (zero : code % 256 ≡ 0) where
+    there_taken : (a : Result BodyPlace BodyError) → body_answer (there a) ≡ r → IfOk a (λ p. (p.at ≡ x) × (p.len ≡ y))
+        → let p = result_unwrap_or a (record { at = 0; len = 0 }) in p.at ∷ p.len ∷ [] ≡ unless_refused r (x ∷ y ∷ []) old
+    there_taken (Ok p) is h = taken r _ _ old _ is (ap₂ (λ (at len : ℕ). at ∷ len ∷ []) h.0 h.1)
+    there_taken (Err f) is _ =
+        absurd (eqb-false (body_report f).number 0 (body_refuses f) (ap (λ (q : Report). q.number) is ∙ sym number ∙ zero))
+
+    pub place_taken : (a : Result BodyPlace BodyError) (place : BodyPlace) → place ≡ result_unwrap_or a (record { at = 0; len = 0 })
+        → body_answer (there a) ≡ r → IfOk a (λ p. (p.at ≡ x) × (p.len ≡ y)) → place.at ∷ place.len ∷ [] ≡ unless_refused r (x ∷ y ∷ []) old
+    place_taken a place is told h =
+        subst (λ (p : BodyPlace). p.at ∷ p.len ∷ [] ≡ unless_refused r (x ∷ y ∷ []) old) (sym is) (there_taken a told h)
 
 -- ---- the two readers: what they name goes into arrays, and the one number is 0 or the fault's
 

@@ -6,7 +6,7 @@ ghost use Rattle.record_format.specs.Faults.{record_write_report, record_write_o
 ghost use Rattle.export_bounds.specs.Coded.{coded, coded_fault};
 
 use export_codes::{record_fault_code, record_written_code, there_code};
-use record::RecordRead;
+use record::{BodyPlace, RecordRead};
 
 // The record writer: the record of the stripe at the output's front. A refused call writes nothing.
 #[tactic(auto, using(export_bounds::proofs::RecordValues::record_write_fits))]
@@ -57,11 +57,13 @@ pub extern "C" fn bridgecrumb_record_body(file: &[u8], disk: usize, place: &mut 
     ensures value { result ≡ coded (body_report file.now disk) }
     ensures place_after { place.new ≡ unless_refused (body_report file.now disk) (offset_in file.now (suc disk) ∷ body_length_in file.now (suc disk) ∷ []) place.old }
 {
-    match record::body_place(file, disk) {
-        Ok(found) => {
-            *place = [found.at, found.len];
-            there_code(Ok(found))
-        }
-        Err(error) => there_code(Err(error)),
+    let found = record::body_place(file, disk);
+    let code = there_code(found);
+    if code % 256 != 0 {
+        return code;
     }
+    // No error has the number 0, so there is a place.
+    let BodyPlace { at, len } = found.unwrap_or(BodyPlace { at: 0, len: 0 });
+    *place = [at, len];
+    code
 }
