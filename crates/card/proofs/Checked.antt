@@ -23,7 +23,7 @@ pub none_found : (r : Option ℕ) (m f : ℕ) → ((j : ℕ) → r ≡ Some j �
 none_found None m f n e = e
 none_found (Some j) m f n e = absurd (n j refl)
 
--- what `contains` answers for a wear of 0
+-- the search for a zero finds just what is among the wears
 pub zero_among : (ws : List ℕ) → list_any (λ w. eqb w 0) ws ≡ member 0 ws
 unfolding member
 zero_among [] = refl
