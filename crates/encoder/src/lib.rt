@@ -48,13 +48,47 @@ fn row(bits: &mut BitTable, i: usize, code: &Code)
     }
 }
 
-// The columns' bits into the table. The other places mean nothing.
-#[tactic(auto, using(crate::proofs::Laws::stored_none, crate::proofs::Laws::stored_more))]
-fn fill_table(bits: &mut BitTable, code: &Code)
+// The same of an array of columns. It has as many places as the row, so that the compiler shifts eight at once and none is
+// left over.
+#[tactic(auto, using(crate::proofs::Laws::row_none, crate::proofs::Laws::row_more), unfolding(gf2::specs::Sets::bit))]
+fn whole_row(bits: &mut BitTable, i: usize, columns: &[u16; 16])
+    requires { i < 16 }
+    ensures row { (j : ℕ) → j < 16 → get_or bits.new (i * 16 + j) 0 ≡ bit (get_or columns.now j 0) i }
+    ensures kept { (p : ℕ) → (p < i * 16) ⊎ (i * 16 + 16 ≤ p) → get_or bits.new p 0 ≡ get_or bits.old p 0 }
+{
+    for j in 0..16 {
+        bits.set(i, j, ((columns[j] >> i) % 2) as u8);
+    }
+}
+
+// The columns' bits into the table, out of an array of the columns. The other places mean nothing.
+fn fill_whole_rows(bits: &mut BitTable, code: &Code)
+    ensures { (i j : ℕ) → i < code.now.k → j < code.now.m → get_or bits.new (i * 16 + j) 0 ≡ bit (column code.now j) i }
+{
+    let columns = code.columns();
+    let k = code.k();
+    for i in 0..k {
+        whole_row(bits, i, &columns);
+    }
+}
+
+// The same out of the columns where they stand in the card.
+fn fill_rows(bits: &mut BitTable, code: &Code)
     ensures { (i j : ℕ) → i < code.now.k → j < code.now.m → get_or bits.new (i * 16 + j) 0 ≡ bit (column code.now j) i }
 {
     for i in 0..code.k() {
         row(bits, i, code);
+    }
+}
+
+// The same in the way that suits their number: for fewer than four the array takes longer to make than it saves.
+fn fill_table(bits: &mut BitTable, code: &Code)
+    ensures { (i j : ℕ) → i < code.now.k → j < code.now.m → get_or bits.new (i * 16 + j) 0 ≡ bit (column code.now j) i }
+{
+    if code.m() < 4 {
+        fill_rows(bits, code);
+    } else {
+        fill_whole_rows(bits, code);
     }
 }
 
