@@ -136,8 +136,7 @@ pub struct Basis {
 
 impl Model for Basis {
     ghost use Rattle.std.specs.Prelude.{◌≡◌, ◌≤◌, ◌-◌, ◌++◌, List, ℕ, length, get_or, take, replicate};
-    ghost use Rattle.std.proofs.Common.{arith, length-take-le};
-    ghost use Rattle.gf2.specs.Padded.{padded-back};
+    ghost use Rattle.gf2.specs.Padded.{padded-back, count-back};
 
     ghost Value = { List ℕ };
 
@@ -149,7 +148,7 @@ impl Model for Basis {
 
     ghost inverse_ok = { λ b h i. record {
       rows = padded-back 16 b.count b.rows h.0 h.1 h.2 i;
-      count = length-take-le b.count b.rows (omega (arith, h.0, h.1)) i;
+      count = count-back 16 b.count b.rows h.0 h.1 i;
     } };
 }
 

@@ -16,8 +16,7 @@ pub struct Members {
 // Clauses see the list of places.
 impl Model for Members {
     ghost use Rattle.std.specs.Prelude.{◌≡◌, ◌≤◌, ◌-◌, ◌++◌, List, ℕ, length, get_or, take, replicate};
-    ghost use Rattle.std.proofs.Common.{arith, length-take-le};
-    ghost use Rattle.gf2.specs.Padded.{padded-back};
+    ghost use Rattle.gf2.specs.Padded.{padded-back, count-back};
 
     ghost Value = { List ℕ };
 
@@ -29,7 +28,7 @@ impl Model for Members {
 
     ghost inverse_ok = { λ m h i. record {
       at = padded-back 32 m.count m.at h.0 h.1 h.2 i;
-      count = length-take-le m.count m.at (omega (arith, h.0, h.1)) i;
+      count = count-back 32 m.count m.at h.0 h.1 i;
     } };
 }
 
