@@ -1,13 +1,9 @@
--- Arrays whose places from some count on are 0: none in use yet, one more stored at the count, and the places before it.
+-- Arrays whose places from some count on are 0: one more stored at the count, and the places before it. That an array of zeros is such,
+-- specs/Padded.antt says (`none-there`).
 -- Assumes nothing.
-use Rattle.std.specs.Prelude.{◌≡◌, refl, List, ℕ, zero, suc, ◌+◌, ◌≤◌, ◌<◌, length, get_or, set, take, replicate}
+use Rattle.std.specs.Prelude.{◌≡◌, List, ℕ, ◌+◌, ◌≤◌, ◌<◌, length, get_or, set, take}
 use Rattle.std.proofs.Common.{◌∙◌, sym, arith, length-take-le}
 use Rattle.std.proofs.lemmas.List.{get_or-set_other, get_or-take, ext_get_or}
-
-pub rest-none : (n i : ℕ) → ◌≡◌ {A = ℕ} (get_or (replicate n 0) i 0) 0
-rest-none zero i = refl
-rest-none (suc n) zero = refl
-rest-none (suc n) (suc i) = rest-none n i
 
 pub rest_more : (count v : ℕ) (xs : List ℕ) → ((i : ℕ) → count ≤ i → get_or xs i 0 ≡ 0) → (i : ℕ) → count + 1 ≤ i → get_or (set xs count v) i 0 ≡ 0
 rest_more count v xs h i l = get_or-set_other xs count i v 0 (λ e. omega arith) ∙ h i (omega arith)

@@ -6,7 +6,7 @@ use Rattle.std.proofs.lemmas.List.{length-replicate}
 use native.Mathlib.Nat.{le-add_right}
 
 -- a list of zeros has no other entry
-none-there : (n i : ℕ) → ◌≡◌ {A = ℕ} (get_or (replicate n 0) i 0) 0
+pub none-there : (n i : ℕ) → ◌≡◌ {A = ℕ} (get_or (replicate n 0) i 0) 0
 none-there zero i = refl
 none-there (suc n) zero = refl
 none-there (suc n) (suc i) = none-there n i

@@ -31,7 +31,7 @@ pub fn below(set: u32, n: u32) -> bool
     requires { n ≤ 32 }
     ensures { result ≡ ltb set (2 ^ n) }
 {
-    (set as u64) < 1u64 << n
+    n == 32 || set < 1u32 << n
 }
 
 // The disks below n.
@@ -85,7 +85,7 @@ pub fn first_of(set: u32, n: u32) -> u32
     requires { n ≤ 32 }
     ensures { result ≡ set % 2 ^ n }
 {
-    (set as u64 % (1u64 << n)) as u32
+    if n < 32 { set % (1u32 << n) } else { set }
 }
 
 // Row v, XORed with row b where v holds disk d.

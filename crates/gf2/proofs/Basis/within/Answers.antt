@@ -4,7 +4,8 @@ use Rattle.std.proofs.Common.{◌≡◌, ◌≤◌, ◌<◌, ap, arith, rules, s
 use Rattle.std.proofs.lemmas.List.{length-map}
 use Rattle.gf2.specs.Within.{within}
 use Rattle.gf2.proofs.Loops.{whole-start, whole-kept, whole_dropped, whole_end}
-use Rattle.gf2.proofs.Padded.{rest-none, rest_more}
+use Rattle.gf2.specs.Padded.{none-there}
+use Rattle.gf2.proofs.Padded.{rest_more}
 use Rattle.gf2.proofs.Tests.{true-T, false-T}
 use Rattle.gf2.proofs.Subsets.{none-⊆}
 use Rattle.gf2.proofs.Basis.within.Goals as goal
@@ -15,7 +16,7 @@ loop-i-init c = record {
   sixteen = search rules;
   room = search rules;
   fewer = search rules;
-  spare = λ i h. rest-none 16 i;
+  spare = λ i h. none-there 16 i;
   rest = whole-start _ _ _ _ ∙ ap (within c.args.set) c.self.view_is;
 }
 

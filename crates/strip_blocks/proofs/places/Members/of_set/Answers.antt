@@ -4,14 +4,15 @@ use mathlib.Core.Path.{◌≡◌, sym, ap, ◌∙◌}
 use Prim.Native.Nat.{ℕ, ◌*◌}
 use native.Mathlib.Omega.{arith}
 use Rattle.gf2.specs.Sets.{over}
-use Rattle.gf2.proofs.Padded.{rest-none, rest_more}
+use Rattle.gf2.specs.Padded.{none-there}
+use Rattle.gf2.proofs.Padded.{rest_more}
 use Rattle.strip_blocks.proofs.Placed.{placed-none, placed_skip, placed-more, placed-strips, placed-sums}
 use borrow.Author.Rules.{rules}
 use Rattle.strip_blocks.proofs.places.Members.of_set.Goals as goal
 use Rattle.strip_blocks.proofs.places.Members.of_set.Goals.{else-has, then-has}
 
 pub loop-i-init : goal.loop-i-init
-loop-i-init c = (search rules, placed-none _ _ 32 _ _ (search rules), λ j h. rest-none 32 j)
+loop-i-init c = (search rules, placed-none _ _ 32 _ _ (search rules), λ j h. none-there 32 j)
 
 pub loop-i-preserved : goal.loop-i-preserved
 loop-i-preserved c =
